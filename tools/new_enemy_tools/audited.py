@@ -3,27 +3,20 @@
 Each of its lines has to begin as importers write them, which tells what it is, and rules may not change. A line is looked at when it is
 asked for; one that has another form raises OtherForm, and then the trace has to be read in full.
 """
-import re
 from bisect import bisect_right
 from collections import Counter
 from itertools import accumulate, compress, repeat
 from operator import eq, itemgetter, lt
 from typing import Iterable, Optional
 
-from new_enemy_tools.ids import mark_in
 from new_enemy_tools.kept import Commit, LateEntries
-from new_enemy_tools.quick import NUMBER, OtherForm, QuickCommit, quick_commit, quick_entry
 from new_enemy_tools.sight import Look, Sight
 from new_enemy_tools.store import Store, Touched
 from new_enemy_tools.texts import Tuple, Userset
-from new_enemy_tools.trace import Refusal, Trace, is_utf8
+from new_enemy_tools.trace import Refusal, Trace
+from new_enemy_tools.trace_lines import (CHECK_START as CHECK, COMMIT_START as COMMIT, CONTENT_START as CONTENT, NAMESPACE_START as NAMESPACE, TOUCHED,
+                                         OtherForm, QuickCommit, ids_in, quick_commit, quick_entry, refuse_other_keys, times_of)
 
-NAMESPACE = b'{"kind":"namespace",'
-COMMIT = b'{"kind":"commit","at":'
-CHECK = b'{"kind":"check","goal":'
-CONTENT = b'{"kind":"content","goal":'
-AT = re.compile(rb"\n%s(%s)[,}]" % (re.escape(COMMIT), NUMBER))
-TOUCHED = re.compile(rb'"([^"@]+)@')
 # A line with its number.
 Numbered = tuple[int, bytes]
 # So many usersets are searched for among all commits before these are listed by the usersets that they touch.
@@ -94,7 +87,7 @@ class AuditedTrace(Trace):
         except Refusal:
             raise OtherForm from None
         self._raws = raws
-        ats = list(map(int, AT.findall(b"\n" + b"\n".join(raws))))
+        ats = times_of(raws)
         if len(ats) != len(commits) or not all(map(lt, ats, ats[1:])):
             raise OtherForm
         self.commits.keep_all(commits, ats, raws)
@@ -125,13 +118,6 @@ class AuditedTrace(Trace):
         return super()._commit_again(line, raw)
 
 
-def refuse_other_keys(data: bytes, lines: int, commits: int) -> None:
-    """Raises OtherForm where some of these lines may have a key twice, or another key that tells what they are."""
-    # Without an escape no text has a quotation mark, so what is counted are keys.
-    if b"\\" in data or lines != data.count(b'"kind"') or commits != data.count(b'"at"') or not is_utf8(data):
-        raise OtherForm
-
-
 def read_audited(data: bytes) -> Trace:
     """The trace of bytes; raises OtherForm where a line does not begin so. Blank lines are those of other parts of a cut."""
     lines = data.split(b"\n")
@@ -146,5 +132,5 @@ def read_audited(data: bytes) -> Trace:
     trace = AuditedTrace(enumerate(lines[:head], 1), list(compress(range(1, len(lines) + 1), are_commits)), list(compress(lines, are_commits)),
                          ((line, raw) for line, raw in enumerate(lines, 1) if raw.startswith(CONTENT)))
     trace.keep_late(lines, entries)
-    trace.table = mark_in(data)
+    trace.table = ids_in(data)
     return trace

@@ -5,24 +5,17 @@ The checks of a trace are its entries, but for those that say `again`: a check t
 each where its reply is right at none, and is one check. Of a check that is audited in part its line says `part`, the cause. The last line
 that an import writes has the key `coverage`, with what stands in no line of the trace. The program passes these keys over.
 """
-import json
 import re
 from collections import Counter
 from typing import Any, Iterator, Mapping, NamedTuple, Optional
 
+from new_enemy_tools import trace_lines
 from new_enemy_tools.importing.causes import not_looked_for
 from new_enemy_tools.importing.times import nanoseconds, text_of_time
 from new_enemy_tools.shown import plain
 
 # Nothing was found, and not everything was looked at.
 INCOMPLETE = 6
-KEY = "coverage"
-# In a text of JSON no quotation mark stands before a colon, so what is found are keys.
-ENTRY = re.compile(rb'"kind"\s*:\s*"(?:check|content)"')
-AGAIN = re.compile(rb'"again"\s*:\s*true')
-PART = re.compile(rb'"part"\s*:\s*"([^"\\]*)"')
-MARK = re.compile(rb'"coverage":(\{[^\\\n]*\})\}\r?$', re.MULTILINE)
-IDS = re.compile(rb'"ids"\s*:\s*\{')
 # A text of a stranger in the sum: without letters that JSON escapes, and so long at most.
 ODD = re.compile(r'["\\\x00-\x1f\x7f]')
 LONGEST = 80
@@ -127,17 +120,22 @@ class Coverage(NamedTuple):
         if self.open:
             yield "the log is open: its last file%s is not closed, so more may follow" % ("" if self.last_file is None else ", %d," % self.last_file)
         if self.unknown is not None:
-            yield "not known what was left out: %s" % self.unknown
+            yield "not known what was left out: %s" % plain(self.unknown)
 
     @property
     def said(self) -> str:
         """The sum in one sentence."""
+        when = "" if self.since is None or self.until is None else ", from %s to %s" % (text_of_time(self.since), text_of_time(self.until))
+        return self.said_counts + when
+
+    @property
+    def said_counts(self) -> str:
+        """The same without its times."""
         counts = [("%d in part", self.in_part), ("%d not audited", self.not_audited), ("%d lost in gaps", self.lost)]
         said = ["%d whole" % self.whole] + [words % _count(counted) for words, counted in counts if counted]
         if self.uncounted:
             said.append("and what was asked in %s" % ("1 gap" if self.uncounted == 1 else "%d gaps" % self.uncounted))
-        when = "" if self.since is None or self.until is None else ", from %s to %s" % (text_of_time(self.since), text_of_time(self.until))
-        return "checks: %s%s" % (", ".join(said), when)
+        return "checks: " + ", ".join(said)
 
     @property
     def state(self) -> str:
@@ -184,7 +182,7 @@ def of_row(value: object) -> Coverage:
 
 def mark_of(coverage: Coverage) -> str:
     """What the last line of a trace says: all but what its lines say themselves."""
-    return ',"%s":%s' % (KEY, json.dumps(coverage._replace(in_part={}).row(), separators=(",", ":"), ensure_ascii=False))
+    return trace_lines.mark_text(coverage=coverage._replace(in_part={}).row())
 
 
 class Lines(NamedTuple):
@@ -205,23 +203,19 @@ NO_LINES = Lines(0, Counter())
 
 def lines_in(data: bytes) -> Lines:
     """Of lines of a trace that the program takes."""
-    return Lines(len(ENTRY.findall(data)) - len(AGAIN.findall(data)), Counter(cause.decode("utf-8", "replace") for cause in PART.findall(data)))
+    found = trace_lines.counted_in(data)
+    return Lines(found.checks + found.contents - found.again, Counter(found.part))
 
 
 def marks_in(data: bytes) -> list[Coverage]:
     """What imports said in lines of a trace, one for each."""
     found = []
-    for mark in MARK.findall(data):
+    for mark in trace_lines.coverages_in(data):
         try:
-            found.append(of_row(json.loads(mark)))
+            found.append(of_row(mark))
         except ValueError:
             found.append(Coverage(unknown="the trace has a sum that cannot be read"))
     return found
-
-
-def is_imported(data: bytes) -> bool:
-    """Whether the first line of a trace says that an import wrote it."""
-    return IDS.search(data, 0, data.find(b"\n") + 1 or len(data)) is not None
 
 
 def coverage_of(lines: Lines, marks: list[Coverage], is_imported: bool) -> Coverage:
@@ -244,4 +238,4 @@ def coverage_in(data: bytes) -> Coverage:
     if data.startswith(b"\n") or b"\n\n" in data:
         marks = [mark._replace(checks=lines.checks if not number else 0) for number, mark in enumerate(marks)]
         return coverage_of(lines, marks, False)
-    return coverage_of(lines, marks, is_imported(data))
+    return coverage_of(lines, marks, trace_lines.is_imported(data))

@@ -7,12 +7,10 @@ The effect of a finding on tokens is one of
 A wrong reply is `wrong`; what lacks good evidence, or whose goal leads to too much to be looked at, is `undecided`. The answers are the
 tools' own; the program's audit does not lean on them.
 """
-from collections import Counter
 from typing import Iterable, NamedTuple, Optional
 
 from new_enemy_tools.findings import Finding
 from new_enemy_tools.kept import Entry
-from new_enemy_tools.looked import Looked
 from new_enemy_tools.meaning import Outgrown, Settled
 from new_enemy_tools.order import Window, ignored
 from new_enemy_tools.reach import Reach
@@ -45,6 +43,16 @@ class Effect(NamedTuple):
     @property
     def severity(self) -> str:
         return SEVERITIES[self.word]
+
+
+class Change(NamedTuple):
+    """A commit that was ignored: its timestamp, its line, and when it was made, as far as the log says so."""
+
+    at: int
+    line: int
+    time: Optional[str]
+    # whether it bears on the question
+    bears: bool
 
 
 # what is known of findings on evidence without a look at the commits
@@ -95,11 +103,14 @@ class Effects:
 
 
 class Told(NamedTuple):
-    """A finding with its entry and its effect."""
+    """A finding with its entry, its effect, and the change that was ignored."""
 
     finding: Finding
     entry: Entry
     effect: Effect
+    change: Optional[Change] = None
+    # whether someone was let in to a version, although a change from before it was to keep them out
+    is_new_enemy: bool = False
 
     @property
     def reply(self) -> tuple[object, ...]:
@@ -115,41 +126,6 @@ class Told(NamedTuple):
         return "let in" if self.entry.reply else "kept out"
 
 
-class Sums(NamedTuple):
-    """How many replies are of each kind; one with several findings, or at several states, counts once, by the worst."""
-
-    wrong: int
-    let_in: int
-    kept_out: int
-    undecided: int
-    harmless: int
-
-    def has_stale_count(self, looked: Looked) -> bool:
-        """Whether a count of stale answers says something: where none could be looked for, none is no answer."""
-        return self.let_in + self.kept_out > 0 or not looked.is_none
-
-    def said(self, looked: Looked) -> str:
-        stale = "stale answers to checks not looked for" if not self.has_stale_count(looked) else (
-            "%d stale %s that let someone in, %d that kept someone out" % (
-                self.let_in, "answer" if self.let_in == 1 else "answers", self.kept_out))
-        said = "%d %s wrong, %s, " % (self.wrong, "reply" if self.wrong == 1 else "replies", stale)
-        said += ("%d undecided, " % self.undecided if self.undecided else "") + "%d harmless" % self.harmless
-        return said + ("; " + looked.counted if looked.counted else "")
-
-
-def sums_of(told: Iterable[Told]) -> Sums:
-    told = list(told)
-    again = {one.reply for one in told if one.entry.again}
-    worst: dict[object, Told] = {}
-    for one in told:
-        key = one.reply if one.reply in again else one.finding.line
-        known = worst.get(key)
-        if known is None or RANKS[one.effect.word] < RANKS[known.effect.word]:
-            worst[key] = one
-    kinds = Counter("let in" if one.effect.word == "changed" and one.entry.reply else one.effect.word for one in worst.values())
-    return Sums(kinds["wrong"], kinds["let in"], kinds["changed"], kinds["undecided"], kinds["possible"] + kinds["none"])
-
-
 def by_effect(told: Iterable[Told]) -> list[Told]:
-    """The worst first, otherwise in the order of the report."""
-    return sorted(told, key=lambda one: RANKS[one.effect.word])
+    """New enemies first and then the worst, otherwise in the order of the report."""
+    return sorted(told, key=lambda one: (not one.is_new_enemy, RANKS[one.effect.word]))

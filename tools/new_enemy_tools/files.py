@@ -4,10 +4,11 @@ import sys
 from typing import Iterable, Optional
 
 from new_enemy_tools.faults import DeviceFault
-from new_enemy_tools.ids import Ids, mark_in
+from new_enemy_tools.ids import Ids
 from new_enemy_tools.pieces import refuse_pieces
 from new_enemy_tools.progress import Progress
 from new_enemy_tools.trace import Trace, read_trace
+from new_enemy_tools.trace_lines import ids_in
 
 
 def read_bytes(path: str) -> bytes:
@@ -53,7 +54,7 @@ def split_joined(data: bytes) -> tuple[bytes, Optional[bytes]]:
 def read_trace_of(data: bytes, progress: Progress) -> Trace:
     """The trace of bytes; raises Fault where it is refused."""
     trace = read_trace(data, progress.steps("read %s lines"))
-    trace.table = mark_in(data)
+    trace.table = ids_in(data)
     return trace
 
 

@@ -45,6 +45,12 @@ def _finding(number: int, text: str) -> Finding:
     return Finding(int(line), finding, said, None if related is None else int(related), None if step is None else int(step))
 
 
+def finding_of(text: str) -> Optional[Finding]:
+    """The finding of a line of a day's report, which says in brackets where it is from; None of what is no finding."""
+    said = text.partition(" (")[0]
+    return _finding(1, said) if FINDING.fullmatch(said) else None
+
+
 def _quickly(text: str) -> list[Finding]:
     """The findings of a text's lines that have the form of one; fewer than there are lines where one is wrong."""
     found = FINDINGS.findall(text)

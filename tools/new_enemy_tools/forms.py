@@ -6,6 +6,7 @@ from typing import Callable, Iterator, NamedTuple, Optional
 from new_enemy_tools import texts
 from new_enemy_tools.baseline import asked_of, key_of, key_with
 from new_enemy_tools.effects import MEANT, Told
+from new_enemy_tools.groups import Group
 from new_enemy_tools.kept import Entry
 from new_enemy_tools.shown import plain
 from new_enemy_tools.telling import Telling
@@ -32,16 +33,17 @@ def place_of(telling: Telling, entry: Entry) -> Place:
     return logged(entry.source) or Place(telling.path, entry.line)
 
 
-def ignored_since(telling: Telling, told: Told) -> Optional[str]:
-    """When the newest change was made that had to be seen and was not, where the log has times of its changes."""
-    seen, commits = told.effect.seen, telling.trace.commits
-    place = None if seen is None or seen <= told.entry.snapshot or told.finding.finding == "F4" else commits.place_at(seen)
-    return None if place is None else commits[place].time
+Places = dict[tuple[int, str], int]
+
+
+def places_in(groups: list[Group]) -> Places:
+    """Of each finding the number of its group, from 1."""
+    return {(one.finding.line, one.finding.finding): number for number, group in enumerate(groups, 1) for one in group.told}
 
 
 def row_of(telling: Telling, told: Told) -> Row:
     """A finding as an object; a key is there where it has a value."""
-    finding, entry, effect = told.finding, told.entry, told.effect
+    finding, entry, effect, change = told.finding, told.entry, told.effect, told.change
     log = logged(entry.source)
     row: Row = {"line": finding.line, "finding": finding.finding, "text": finding.text, "effect": effect.word,
            "severity": effect.severity, "outcome": told.outcome, "seen": effect.seen, "kind": entry.kind,
@@ -51,7 +53,7 @@ def row_of(telling: Telling, told: Told) -> Row:
            "version": entry.version, "related": finding.related,
            "related_at": None if finding.related is None else telling.trace.at_of(finding.related), "step": finding.step,
            "from": entry.source, "file": log and log.file, "file_line": log and log.line, "revision": entry.revision, "time": entry.time,
-           "ignored_since": ignored_since(telling, told)}
+           "ignored_at": change and change.at, "ignored_since": change and change.time, "new_enemy": told.is_new_enemy or None}
     return _present(row)
 
 
@@ -59,20 +61,27 @@ def _present(row: Row) -> Row:
     return {key: value for key, value in row.items() if value is not None}
 
 
-def keyed_row_of(telling: Telling, told: Told) -> Row:
-    """The same with the key by which a baseline knows it."""
-    return {**row_of(telling, told), "key": key_of(told, telling.names)}
+def keyed_row_of(telling: Telling, told: Told, places: Places) -> Row:
+    """The same with the number of its group, if it is told, and the key by which a baseline knows it."""
+    group = places.get((told.finding.line, told.finding.finding))
+    return {**row_of(telling, told), **_present({"group": group}), "key": key_of(told, telling.names)}
 
 
 def sums_row(telling: Telling) -> Row:
-    report = telling.report
-    return _present({"sums": {**telling.sums._asdict(), "text": telling.said}, "entries": report.entries,
+    report, sums = telling.report, telling.sums
+    return _present({"sums": {**sums.requests._asdict(), "distinct": sums.distinct._asdict(), "new_enemies": sums.new_enemies,
+                              "text": telling.said}, "groups": len(telling.groups), "service": telling.service, "entries": report.entries,
                      "findings": len(report.findings), "told": len(telling.told), "ignored": len(telling.ignored),
                      "known": len(telling.known), "verdict": report.verdict, "named": telling.names.ids is not None,
                      **telling.looked._asdict(), "note": telling.looked.note, "coverage": {"state": telling.coverage.state, **telling.coverage.row()}})
 
 
-_json = json.JSONEncoder(ensure_ascii=False, separators=(",", ":")).encode
+_encoded = json.JSONEncoder(ensure_ascii=False, separators=(",", ":")).encode
+
+
+def _json(value: object) -> str:
+    """A letter that is not seen is there by its number, which in JSON is the same letter."""
+    return plain(_encoded(value))
 
 
 def json_lines(telling: Telling) -> Iterator[str]:
@@ -96,6 +105,7 @@ class RowTexts:
 
     def __init__(self, telling: Telling):
         self.telling = telling
+        self._places = places_in(telling.groups)
         self._entries: dict[int, EntryTexts] = {}
         self._heads: dict[tuple[str, str, Optional[str]], str] = {}
 
@@ -110,10 +120,17 @@ class RowTexts:
         more = "" if finding.step is None else ',"step":%d' % finding.step
         if finding.related is not None:
             more = ',"related":%d,"related_at":%d%s' % (finding.related, self.telling.trace.at_of(finding.related) or 0, more)
-        since = ignored_since(self.telling, told)
-        return '{"line":%d,%s,%s%s%s%s%s,"key":"%s"}' % (entry.line, head, seen, texts.first, more, texts.last,
-                                                       "" if since is None else ',"ignored_since":"%s"' % since,
-                                                       key_with(finding.finding, effect.word, texts.asked))
+        return '{"line":%d,%s,%s%s%s%s%s,"group":%d,"key":"%s"}' % (
+            entry.line, head, seen, texts.first, more, texts.last, self._ignored(told), self._places[entry.line, finding.finding],
+            key_with(finding.finding, effect.word, texts.asked))
+
+    @staticmethod
+    def _ignored(told: Told) -> str:
+        change = told.change
+        if change is None:
+            return ""
+        since = "" if change.time is None else ',"ignored_since":%s' % _json(change.time)
+        return ',"ignored_at":%d%s%s' % (change.at, since, ',"new_enemy":true' if told.is_new_enemy else "")
 
     @staticmethod
     def _head(told: Told) -> str:
@@ -147,11 +164,27 @@ def sentence(row: Row) -> str:
     return said + ": " + ("someone was %s" % row["outcome"] if "outcome" in row else MEANT[str(row["effect"])])
 
 
+def group_sentence(telling: Telling, group: Group) -> str:
+    """The worst finding of a group, and how often and when it was asked."""
+    row = row_of(telling, group.worst)
+    if group.requests > 1:
+        row.pop("time", None)
+    more = ["a new enemy"] if group.is_new_enemy else []
+    more += ["with %s" % " and ".join(group.others)] if group.others else []
+    more += [group.said] if group.requests > 1 else []
+    return sentence(row) + "".join("; " + one for one in more)
+
+
 def text(telling: Telling) -> Iterator[str]:
     yield telling.said
     yield from telling.notes
-    for told in telling.told:
-        yield plain("line %d: %s" % (told.finding.line, sentence(row_of(telling, told))))
+    yield from group_lines(telling)
+
+
+def group_lines(telling: Telling) -> Iterator[str]:
+    """A line for each group of findings."""
+    for group in telling.groups:
+        yield plain("line %d: %s" % (group.worst.finding.line, group_sentence(telling, group)))
 
 
 def junit(telling: Telling) -> Iterator[str]:
@@ -202,20 +235,20 @@ def _attribute(text: str) -> str:
 
 
 def _xml(text: str) -> str:
-    """Without the letters that XML has no form for."""
-    return "".join(letter if letter >= " " and letter not in "\ufffe\uffff" else "?" for letter in text)
+    """Without the letters that XML has no form for, or that are not seen."""
+    return plain(text).translate({0xfffe: "?", 0xffff: "?"})
 
 
 def annotations(telling: Telling) -> Iterator[str]:
-    """Workflow commands, as GitHub's and Gitea's runners read them."""
+    """Workflow commands, as GitHub's and Gitea's runners read them, which show few: one for each group."""
     level = "notice" if telling.coverage.is_whole else "warning"
     for number, said in enumerate([telling.said, *telling.notes]):
         yield "::%s title=new_enemy::%s" % (level if number else "notice", _data(said))
-    for told in telling.told:
-        row, place = row_of(telling, told), place_of(telling, told.entry)
-        title = "%s %s, effect %s" % (row["finding"], row["text"], row["effect"])
+    for group in telling.groups:
+        told = group.worst
+        place, title = place_of(telling, told.entry), "%s %s, effect %s" % (told.finding.finding, told.finding.text, told.effect.word)
         yield "::%s file=%s,line=%d,title=%s::%s" % (LEVELS[told.effect.severity], _property(place.file), place.line,
-                                                     _property(title), _data(sentence(row)))
+                                                     _property(title), _data(group_sentence(telling, group)))
 
 
 def _data(text: str) -> str:

@@ -46,15 +46,6 @@ def is_kept(id_text: str) -> bool:
     return texts.is_object_id(id_text) and not (id_text[0] == "~" and ID.fullmatch(id_text))
 
 
-def mark_in(trace: bytes) -> object:
-    """What the first line of a trace says of its table; None where it says nothing."""
-    try:
-        first = json.loads(trace[:trace.find(b"\n") + 1] or trace)
-    except ValueError:
-        return None
-    return first.get("ids") if isinstance(first, dict) else None
-
-
 def _digest_of(path: str, size: int) -> Optional[str]:
     """The checksum of so many bytes of a file; None where it has fewer, or is not there."""
     from hashlib import blake2b

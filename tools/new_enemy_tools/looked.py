@@ -1,12 +1,10 @@
 """How many checks of a trace can be looked at for stale answers: those that name a content version or carry a token."""
 from typing import NamedTuple, Optional
 
-from new_enemy_tools import strictjson
+from new_enemy_tools.trace_lines import counted_in
 
 NAME_IT = ("The application has to name the version on each check that shows content: in the header X-Content-Version, where the recorder "
            "writes the log (docs/RECORDING.md), or as `version` in a log of your own (docs/IMPORTING.md).")
-KEYS = ("version", "zookie", "named")
-CHECK = b'{"kind":"check"'
 
 
 class Looked(NamedTuple):
@@ -15,6 +13,13 @@ class Looked(NamedTuple):
     with_token: int
     # those that name a version which the log does not know
     with_unknown: int = 0
+
+    def naming(self) -> int:
+        """How many name a version, known or not."""
+        return self.with_version + self.with_unknown
+
+    def carrying(self) -> int:
+        return self.with_token
 
     @property
     def is_none(self) -> bool:
@@ -59,42 +64,5 @@ def _how_many(count: int, one: str, many: str) -> str:
 
 def looked_in(lines: bytes) -> Looked:
     """Of lines of a trace; one that the program does not take may be counted or not."""
-    found = _by_bytes(lines)
-    if found is not None:
-        return found
-    plain: list[bytes] = []
-    odd: list[bytes] = []
-    for line in lines.split(b"\n"):
-        (odd if b"\\" in line or not line.startswith(b'{"kind":"') else plain).append(line)
-    found = _by_bytes(b"\n".join(plain))
-    return _by_value(plain + odd) if found is None else found.plus(_by_value(odd))
-
-
-def _by_bytes(lines: bytes) -> Optional[Looked]:
-    """None where some line may have another form than importers write."""
-    begun, checks, counts = lines.count(b'\n{"kind":"') + lines.startswith(b'{"kind":"'), lines.count(CHECK), _counts(lines, b'"')
-    # Where no text has a quotation mark and each line begins with the one key that says what it is, what is counted are keys.
-    if b"\\" in lines or begun != lines.count(b'"kind"') or counts != _counts(lines, b'":"'):
-        return None
-    if any(counts):
-        # Such a key says nothing on a line of another kind.
-        others = _counts(b"\n".join([line for line in lines.split(b"\n") if not line.startswith(CHECK)]), b'"')
-        counts = [count - other for count, other in zip(counts, others)]
-    return Looked(checks, *counts) if max(counts) <= checks else None
-
-
-def _counts(lines: bytes, behind: bytes) -> list[int]:
-    return [lines.count(b'"' + key.encode() + behind) for key in KEYS]
-
-
-def _by_value(lines: list[bytes]) -> Looked:
-    checks = [value for value in map(_value, lines) if isinstance(value, dict) and value.get("kind") == "check"]
-    return Looked(len(checks), *(sum([value.get(key) is not None for value in checks]) for key in KEYS))
-
-
-def _value(line: bytes) -> object:
-    """The value of a line; None of one that has none."""
-    try:
-        return strictjson.value_of(line)
-    except strictjson.NotJson:
-        return None
+    found = counted_in(lines)
+    return Looked(found.checks, found.with_version, found.with_token, found.with_unknown)

@@ -10,6 +10,9 @@ from typing import Callable, Iterator, NamedTuple, Optional
 from new_enemy_tools.effects import EFFECTS, MEANT, Told
 from new_enemy_tools.findings import FORMS
 from new_enemy_tools.forms import place_of
+from new_enemy_tools.groups import Group, listed
+from new_enemy_tools.importing.times import text_of_time
+from new_enemy_tools.looked import Looked
 from new_enemy_tools.meaning import Outgrown
 from new_enemy_tools.picture import drawn
 from new_enemy_tools.shown import markup
@@ -22,20 +25,22 @@ VERDICTS = {"clean": "clean", "dirty": "dirty", "incomplete": "incomplete: nothi
 # So many stories are open from the start.
 OPEN = 10
 HERE = os.path.dirname(os.path.abspath(__file__))
-COLUMNS = ("Effect", "Finding", "Where", "Question", "User", "Snapshot", "Reply", "Had to see", "Version")
+COLUMNS = ("Effect", "Finding", "Where", "Asked", "Question", "User", "Snapshot", "Reply", "Had to see", "Ignored a change of", "Version")
 
 
 class Page(NamedTuple):
-    """Its number, from 1, and the findings that it shows."""
+    """Its number, from 1, the findings that it shows, and the groups whose worst is among these."""
 
     number: int
     told: list[Told]
+    groups: list[Group]
 
 
 def pages_of(telling: Telling) -> list[Page]:
-    """At least one, also where nothing was found."""
-    starts = range(0, max(1, len(telling.told)), PAGE)
-    return [Page(number, telling.told[start:start + PAGE]) for number, start in enumerate(starts, 1)]
+    """At least one, also where nothing was found. The worst finding of each group stands before all others."""
+    told, groups = list(listed(telling.groups)), telling.groups
+    starts = range(0, max(1, len(told)), PAGE)
+    return [Page(number, told[start:start + PAGE], groups[start:start + PAGE]) for number, start in enumerate(starts, 1)]
 
 
 def path_of(path: str, number: int) -> str:
@@ -49,6 +54,11 @@ def path_of(path: str, number: int) -> str:
 def asset(name: str) -> str:
     with open(os.path.join(HERE, name), encoding="utf-8") as file:
         return file.read()
+
+
+def color_of(verdict: str, looked: Optional[Looked]) -> str:
+    """The class of a verdict. Clean is not green where stale answers could be looked for to no check, or that is not known."""
+    return "incomplete" if verdict == "clean" and (looked is None or looked.is_none) else verdict
 
 
 def _counted(count: int, one: str, many: str) -> str:
@@ -76,6 +86,9 @@ class Writer:
         self.telling, self.path = telling, path
         self.pages = pages_of(telling)
         self.teller = Teller(telling.trace, telling.names)
+        # of each finding that mattered the page with the story of its group, and the finding that this is of
+        self._stories_of = {told.finding: (number // PAGE + 1, group.worst.finding) for number, group in enumerate(telling.groups)
+                            if group.worst.outcome is not None for told in group.told}
         self.style, self.script = asset("page.css"), asset("page.js")
 
     def lines(self, page: Page) -> Iterator[str]:
@@ -100,9 +113,10 @@ class Writer:
         yield "<header><h1>What the audit found</h1>"
         verdict, coverage = self.telling.verdict, self.telling.coverage
         yield '<p>Verdict <span class="verdict %s">%s</span> of %s in <code>%s</code>, with %s.</p>' % (
-            verdict, VERDICTS[verdict], _counted(coverage.checks, "check", "checks"), markup(self.telling.path),
+            color_of(verdict, self.telling.looked), VERDICTS[verdict], _counted(coverage.checks, "check", "checks"), markup(self.telling.path),
             _counted(len(report.findings), "finding", "findings"))
-        yield '<p id="coverage">%s.</p>' % markup(coverage.said[0].upper() + coverage.said[1:])
+        yield from self._about()
+        yield '<p id="coverage">%s.</p>' % markup(coverage.said_counts[0].upper() + coverage.said_counts[1:])
         if not coverage.is_whole:
             yield '<ul id="unaudited">%s</ul>' % "".join(
                 "<li>%s</li>" % markup(one) for one in self.telling.notes if one not in (self.telling.looked.note, coverage.said))
@@ -110,19 +124,33 @@ class Writer:
         if self.telling.looked.note:
             yield '<p id="note">%s</p>' % markup(self.telling.looked.note)
         yield '<ul class="sums">'
-        has_stale = sums.has_stale_count(self.telling.looked)
-        for count, mark, words in ((sums.wrong, "wrong", "reply wrong" if sums.wrong == 1 else "replies wrong"),
-                                   (sums.let_in if has_stale else None, "changed", "stale, let someone in"),
-                                   (sums.kept_out if has_stale else None, "changed", "stale, kept someone out"),
-                                   (sums.undecided, "undecided", "undecided"), (sums.harmless, "none", "harmless")):
-            yield '<li><strong%s>%s</strong> %s</li>' % (
-                ' class="%s"' % mark if count else "", "not looked for:" if count is None else format(count, ","), words)
+        found, asked, has_stale = sums.distinct, sums.requests, sums.has_stale_count(self.telling.looked)
+        if sums.new_enemies:
+            yield '<li><strong class="wrong">%s</strong> let a new enemy in</li>' % format(sums.new_enemies, ",")
+        for count, requests, mark, words in (
+                (found.wrong, asked.wrong, "wrong", "reply wrong" if found.wrong == 1 else "replies wrong"),
+                (found.let_in if has_stale else None, asked.let_in, "changed", "stale, let someone in"),
+                (found.kept_out if has_stale else None, asked.kept_out, "changed", "stale, kept someone out"),
+                (found.undecided, asked.undecided, "undecided", "undecided"), (found.harmless, asked.harmless, "none", "harmless")):
+            yield '<li><strong%s>%s</strong> %s%s</li>' % (
+                ' class="%s"' % mark if count else "", "not looked for:" if count is None else format(count, ","), words,
+                "" if count is None or count == requests else ' <span class="soft">in %s</span>' % _counted(requests, "request", "requests"))
         yield "</ul>"
         if len(self.pages) > 1:
             yield '<p class="soft">Page %d of %d: findings %s to %s of %s, the worst first.</p>' % (
                 page.number, len(self.pages), format((page.number - 1) * PAGE + 1, ","),
                 format((page.number - 1) * PAGE + len(page.told), ","), format(len(self.telling.told), ","))
         yield "</header>"
+
+    def _about(self) -> Iterator[str]:
+        """Of which service the log is, and from when to when it goes."""
+        coverage, service = self.telling.coverage, self.telling.service
+        said = [] if service is None else ["Service <strong>%s</strong>" % markup(service)]
+        if coverage.since is not None and coverage.until is not None:
+            said.append("from <time>%s</time> to <time>%s</time>" % (text_of_time(coverage.since), text_of_time(coverage.until)))
+        if said:
+            text = ", ".join(said)
+            yield '<p id="about">%s.</p>' % (text[0].upper() + text[1:])
 
     def _filters(self, page: Page) -> Iterator[str]:
         words = {told.finding.finding: FORMS[told.finding.finding][0] for told in page.told}
@@ -143,23 +171,25 @@ class Writer:
     # Stories
 
     def _stories(self, page: Page) -> Iterator[str]:
-        mattered = [told for told in page.told if told.outcome is not None]
+        mattered = [group for group in page.groups if group.worst.outcome is not None]
         if not mattered:
             return
         yield '<main><h2 id="mattered">What mattered</h2>'
-        for number, told in enumerate(mattered):
+        for number, group in enumerate(mattered):
             try:
-                story = self.teller.story(told)
+                story = self.teller.story(group.worst)
             except Outgrown as fault:
-                story = self.teller.short_story(told, str(fault))
-            yield from self._story(told, story, number < OPEN)
+                story = self.teller.short_story(group.worst, str(fault))
+            yield from self._story(group, story, number < OPEN)
         yield "</main>"
 
-    def _story(self, told: Told, story: Story, is_open: bool) -> Iterator[str]:
+    def _story(self, group: Group, story: Story, is_open: bool) -> Iterator[str]:
+        told = group.worst
         yield '<details class="story" id="story-%d-%s"%s %s><summary><h3>%s</h3> <span class="soft">%s</span></summary>' % (
-            told.finding.line, told.finding.finding, " open" if is_open else "", self._data(told), markup(story.title),
-            markup(self._where(told)))
-        yield "<p>%s.</p>" % markup(story.question)
+            told.finding.line, told.finding.finding, " open" if is_open else "", self._data(told),
+            markup(story.title) + (" (a new enemy)" if group.is_new_enemy else ""),
+            markup(", ".join(one for one in (self._where(told), group.said) if one)))
+        yield "<p>%s%s.</p>" % (markup(story.question), "; found too: %s" % markup(", ".join(group.others)) if group.others else "")
         yield '<ol class="timeline">'
         for event in story.events:
             yield self._event(event)
@@ -177,9 +207,10 @@ class Writer:
     def _event(event: Event) -> str:
         where = ' <span class="soft">(%s)</span>' % markup(event.where) if event.where else ""
         ignored = ", <strong>ignored</strong>" if event.is_ignored else ""
+        below = [one for one in dict.fromkeys((event.revision, event.time)) if one]
         return '<li class="%s%s"><time>%d%s</time><span class="dot"></span><span class="what">%s%s%s</span></li>' % (
             event.mark, " ignored" if event.is_ignored else "", event.at,
-            '<span class="soft">%s</span>' % markup(event.revision) if event.revision else "", markup(event.text), ignored, where)
+            "".join('<span class="soft">%s</span>' % markup(one) for one in below), markup(event.text), ignored, where)
 
     # The table
 
@@ -191,18 +222,17 @@ class Writer:
 
     def _where(self, told: Told) -> str:
         place = place_of(self.telling, told.entry)
-        where = "%s:%d" % place if told.entry.source else "line %d" % told.finding.line
-        return where if told.entry.time is None else "%s, %s" % (where, told.entry.time)
+        return "%s:%d" % place if told.entry.source else "line %d" % told.finding.line
 
     def _table(self, page: Page) -> Iterator[str]:
         yield '<h2 id="all">All findings</h2><p class="soft">%s.</p>' % markup("; ".join("%s: %s" % one for one in MEANT.items()))
         yield '<div class="scroll" tabindex="0" role="region" aria-labelledby="all"><table>'
         yield "<thead><tr>%s</tr></thead><tbody>" % "".join('<th scope="col">%s</th>' % column for column in COLUMNS)
         for told in page.told:
-            yield self._row(told)
+            yield self._row(told, page)
         yield "</tbody></table></div>"
 
-    def _row(self, told: Told) -> str:
+    def _row(self, told: Told, page: Page) -> str:
         entry, finding, names = told.entry, told.finding, self.telling.names
         question = names.question(entry.goal)
         said = "%s %s" % (finding.finding, finding.text)
@@ -210,23 +240,35 @@ class Writer:
         said += ", step %d" % finding.step if finding.step is not None else ""
         effect = told.effect.word + (", %s" % told.outcome if told.outcome else "")
         cells: list[Optional[str]] = [
-            said, self._where(told), "%s of %s:%s#%s" % (entry.kind, question.namespace, question.object, question.relation),
+            said, self._where(told), entry.time, "%s of %s:%s#%s" % (entry.kind, question.namespace, question.object, question.relation),
             question.user, str(entry.snapshot) + (" (%s)" % entry.revision if entry.revision else ""),
             "yes" if entry.reply else "no", None if told.effect.seen is None else str(told.effect.seen),
-            None if entry.version is None else names.version(entry.version)]
-        shown = markup(effect) if told.outcome is None else '<a href="#story-%d-%s">%s</a>' % (
-            finding.line, finding.finding, markup(effect))
+            self._ignored(told), None if entry.version is None else names.version(entry.version)]
+        shown = markup(effect)
+        if finding in self._stories_of:
+            number, worst = self._stories_of[finding]
+            place = "" if number == page.number else self._address(number)
+            shown = '<a href="%s#story-%d-%s">%s</a>' % (place, worst.line, worst.finding, shown)
         return '<tr %s><td class="%s">%s</td>%s</tr>' % (
             self._data(told), told.effect.word, shown, "".join("<td>%s</td>" % markup(cell or "") for cell in cells))
+
+    @staticmethod
+    def _ignored(told: Told) -> Optional[str]:
+        if told.change is None:
+            return None
+        return "%d%s" % (told.change.at, " (%s)" % told.change.time if told.change.time else "")
 
     def _links(self, page: Page) -> Iterator[str]:
         if len(self.pages) == 1:
             return
         yield '<nav class="pages" aria-label="Pages"><p>Pages:'
         for other in self.pages:
-            address = markup(_url(os.path.basename(path_of(self.path, other.number))))
-            yield "<strong>%d</strong>" % page.number if other is page else '<a href="%s">%d</a>' % (address, other.number)
+            yield "<strong>%d</strong>" % page.number if other is page else '<a href="%s">%d</a>' % (self._address(other.number), other.number)
         yield "</p></nav>"
+
+    def _address(self, number: int) -> str:
+        """That of a page, for a link."""
+        return markup(_url(os.path.basename(path_of(self.path, number))))
 
 
 def _url(name: str) -> str:

@@ -6,8 +6,9 @@ from urllib.parse import quote
 from new_enemy_tools.baseline import FINGERPRINT
 from new_enemy_tools.effects import Told
 from new_enemy_tools.findings import FORMS
-from new_enemy_tools.forms import Place, keyed_row_of, logged, place_of, sentence, sums_row
+from new_enemy_tools.forms import Place, Places, keyed_row_of, logged, place_of, places_in, sentence, sums_row
 from new_enemy_tools.ignoring import Row as Ignored
+from new_enemy_tools.shown import plain
 from new_enemy_tools.telling import Telling
 
 SCHEMA = "https://json.schemastore.org/sarif-2.1.0.json"
@@ -26,7 +27,7 @@ NUMBERS = {finding: number for number, finding in enumerate(FORMS)}
 
 
 def _json(value: object) -> str:
-    return json.dumps(value, ensure_ascii=False, separators=(",", ":"))
+    return plain(json.dumps(value, ensure_ascii=False, separators=(",", ":")))
 
 
 def _uri(path: str) -> str:
@@ -45,8 +46,8 @@ def _related(telling: Telling, line: int) -> Place:
     return logged(source) or Place(telling.path, line)
 
 
-def _result(telling: Telling, told: Told, ignored: Optional[Ignored]) -> dict[str, object]:
-    row = keyed_row_of(telling, told)
+def _result(telling: Telling, told: Told, ignored: Optional[Ignored], places: Places) -> dict[str, object]:
+    row = keyed_row_of(telling, told, places)
     location = _location(place_of(telling, told.entry))
     location["logicalLocations"] = [{"fullyQualifiedName": row.get("named", row["goal"]), "kind": "resource"}]
     result: dict[str, object] = {
@@ -76,6 +77,7 @@ def sarif(telling: Telling) -> Iterator[str]:
         _json(notes), ',"properties":%s' % _json({"coverage": telling.coverage.row()}))
     yield '"properties":%s,"results":[' % _json(sums_row(telling))
     listed: list[tuple[Told, Optional[Ignored]]] = [(told, None) for told in telling.told] + list(telling.ignored)
+    places = places_in(telling.groups)
     for number, (told, ignored) in enumerate(listed, 1):
-        yield _json(_result(telling, told, ignored)) + ("," if number < len(listed) else "")
+        yield _json(_result(telling, told, ignored, places)) + ("," if number < len(listed) else "")
     yield "]}]}"

@@ -2,17 +2,15 @@
 
 It says what Reach and Settled would say, of goals that lead to few usersets.
 """
-import re
 from bisect import bisect_left, bisect_right
 from itertools import accumulate
 from typing import NamedTuple, Optional
 
-from new_enemy_tools.quick import OtherForm, Pair, quick_commit
 from new_enemy_tools.rules import Place, Rules, children_of, form_of, places
 from new_enemy_tools.strictjson import Object
 from new_enemy_tools.texts import Tuple
+from new_enemy_tools.trace_lines import MEMBER, OtherForm, Pair, quick_commit
 
-MEMBER = re.compile(rb"@[a-z]")
 # A goal that leads to more usersets than this is looked at by another way.
 FEW = 1_000
 # So many usersets are gone through for one answer, and so many expressions at most within one another, since Python has few frames.

@@ -30,6 +30,8 @@ class Event(NamedTuple):
     is_ignored: bool
     # the service's own, where the import kept it
     revision: str
+    # when a change was made, or a check was asked, where the log says so
+    time: str = ""
 
 
 class Picture(NamedTuple):
@@ -102,7 +104,7 @@ class Teller:
         commit = commit_at(self.trace, at)
         assert commit is not None
         return Event(at, 0, "change", self._touched(commit, wanted), self._where(commit.line, commit.source), is_ignored,
-                     commit.revision or "")
+                     commit.revision or "", commit.time or "")
 
     def _touched(self, commit: Commit, wanted: Reach) -> str:
         if commit.changes is not None:
@@ -131,7 +133,7 @@ class Teller:
         """Of a wrong reply, the commit at which it came to be wrong."""
         turn = turn_of(self.trace, self.effects, entry, LOOKED)
         if turn is not None:
-            yield self._commit(turn.at, Reach(self.trace, entry.goal, Window(turn.at - 1, turn.at)), False)
+            yield self._commit(turn.at, Reach(self.trace, entry.goal, Window(turn.at - 1, turn.at)), turn.is_after)
 
     def _checks(self, entry: Entry, window: Window) -> Iterator[Event]:
         where, token = self._where(entry.line, entry.source), zookie_at(entry)
@@ -139,11 +141,11 @@ class Teller:
             issued = self.trace.entries[entry.issued_on]
             yield Event(issued.snapshot, 1, "content", "Content was checked for %s and got version %s" % (
                 self.names.tuple(issued.goal), self.names.version(issued.version or "")), self._where(issued.line, issued.source), False,
-                        issued.revision or "")
+                        issued.revision or "", _asked(issued))
         if entry.kind == "check" and token is not None:
             yield Event(token, 2, "token", "The token of the request demanded this", where, False, "")
         yield Event(entry.snapshot, 3, "looked", "The %s looked here, and the service said %s" % (
-            "content check" if entry.kind == "content" else "check", _word(entry.reply)), where, False, entry.revision or "")
+            "content check" if entry.kind == "content" else "check", _word(entry.reply)), where, False, entry.revision or "", _asked(entry))
         if window.high > window.low:
             yield Event(window.high, 4, "seen", "This had to be seen; the answer here is %s" % _word(not entry.reply), "", False, "")
 
@@ -169,6 +171,10 @@ def _times(reason: Reason, found: set[int]) -> None:
             found.add(ground.since)
         if ground.why is not None:
             _times(ground.why, found)
+
+
+def _asked(entry: Entry) -> str:
+    return "asked %s" % entry.time if entry.time else ""
 
 
 def _word(answer: bool) -> str:

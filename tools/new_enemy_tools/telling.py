@@ -5,8 +5,10 @@ from typing import Callable, NamedTuple, Optional
 
 from new_enemy_tools.baseline import key_of
 from new_enemy_tools.coverage import INCOMPLETE, Coverage
-from new_enemy_tools.effects import Effects, Sums, Told, by_effect, sums_of
+from new_enemy_tools.changes import Changes
+from new_enemy_tools.effects import Effect, Effects, Told, by_effect
 from new_enemy_tools.findings import ON_TOKENS, Finding, Report, ReportFault
+from new_enemy_tools.groups import Group, Replies, Sums
 from new_enemy_tools.ignoring import Row
 from new_enemy_tools.kept import Entry
 from new_enemy_tools.looked import Looked
@@ -19,7 +21,7 @@ STEP = 64
 
 
 class Telling(NamedTuple):
-    """The worst findings come first."""
+    """New enemies come first, and then the worst findings."""
 
     told: list[Told]
     # with the row that hides each
@@ -35,6 +37,13 @@ class Telling(NamedTuple):
     coverage: Coverage
     # how many findings are told once with those of their checks at other states
     others: int
+    # the findings that are told, by what was wrong
+    groups: list[Group]
+
+    @property
+    def service(self) -> Optional[str]:
+        """That of the logs, where the table of ids says it."""
+        return None if self.names.ids is None else self.names.ids.service
 
     @property
     def said(self) -> str:
@@ -59,8 +68,9 @@ class Telling(NamedTuple):
         return self.report.verdict if not is_clean or self.coverage.is_whole else self.coverage.state
 
     def status(self, allowed: float) -> int:
-        """6 where nothing was found, and more than so many percent of the checks were not looked at whole; else 0."""
-        return 0 if self.report.findings or self.coverage.status(allowed) == 0 and not self.coverage.is_empty else INCOMPLETE
+        """6 where nothing was found, and more than so many percent of the checks were not looked at whole; else 0, also where nothing was
+        asked, as of an import and a window."""
+        return 0 if self.report.findings or self.coverage.status(allowed) == 0 else INCOMPLETE
 
 
 def _entry_of(number: int, finding: Finding, trace: Trace) -> Entry:
@@ -80,15 +90,23 @@ def told_of(trace: Trace, report: Report, step: Callable[[int], None] = lambda c
     """Each finding with its entry and effect, by effect; raises ReportFault where a report is not of this trace."""
     if report.entries != len(trace.entries):
         raise ReportFault("the report has %d entries, and the trace %d" % (report.entries, len(trace.entries)))
-    effects, told = Effects(trace), []
+    effects = Effects(trace)
+    changes, told = Changes(trace, effects), []
     for number, finding in enumerate(report.findings, 1):
         entry = _entry_of(number, finding, trace)
         if finding.finding in ON_TOKENS:
             _refuse_other(number, finding, entry, trace)
-        told.append(Told(finding, entry, effects.of(entry, finding.finding)))
+        told.append(_told(trace, changes, finding, entry, effects.of(entry, finding.finding)))
         if number % STEP == 1:
             step(number)
     return by_effect(told)
+
+
+def _told(trace: Trace, changes: Changes, finding: Finding, entry: Entry, effect: Effect) -> Told:
+    told = Told(finding, entry, effect, changes.of(entry, finding.finding, effect))
+    if told.outcome != "let in" or entry.kind != "check" or entry.issued_on is None or told.change is None:
+        return told
+    return told._replace(is_new_enemy=told.change.at <= trace.entries[entry.issued_on].snapshot)
 
 
 def _refuse_other(number: int, finding: Finding, entry: Entry, trace: Trace) -> None:
@@ -134,7 +152,8 @@ def telling_of(told: list[Told], trace: Trace, names: Names, path: str, report: 
     rows = [] if out is None else [row for row in out.rows if row.until >= out.today]
     left = Counter() if out is None else Counter(out.baseline)
     if not rows and not left:
-        return Telling(told, [], [], trace, names, path, report, sums_of(told), looked, coverage, others)
+        replies = Replies(told)
+        return Telling(told, [], [], trace, names, path, report, replies.sums(), looked, coverage, others, replies.groups())
     said: list[Told] = []
     ignored: list[tuple[Told, Row]] = []
     known: list[Told] = []
@@ -148,7 +167,8 @@ def telling_of(told: list[Told], trace: Trace, names: Names, path: str, report: 
             known.append(one)
         else:
             said.append(one)
-    return Telling(said, ignored, known, trace, names, path, report, sums_of(said), looked, coverage, others)
+    replies = Replies(said)
+    return Telling(said, ignored, known, trace, names, path, report, replies.sums(), looked, coverage, others, replies.groups())
 
 
 def warnings_of(telling: Telling, out: LeftOut) -> list[str]:

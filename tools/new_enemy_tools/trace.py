@@ -1,22 +1,20 @@
 """Reads a trace, or says what is wrong with the first line that the program refuses."""
 import gc
-import re
-from typing import Callable, Iterator, Optional, Union
+from typing import Callable, Iterable, Iterator, Optional, Union
 
 from new_enemy_tools import limits, strictjson, texts
 from new_enemy_tools.edges import Edge, TupleEdges, first_broken, rule_edges
 from new_enemy_tools.faults import ToolFault
 from new_enemy_tools.kept import Commit, Commits, Entries, Entry
-from new_enemy_tools.quick import OtherForm, QuickCommit, quick_commit, quick_entry, quick_fields
 from new_enemy_tools.rules import Rules, RulesFault
 from new_enemy_tools.sight import Look
 from new_enemy_tools.store import Store
 from new_enemy_tools.strictjson import Object
 from new_enemy_tools.texts import Tuple, Userset
+from new_enemy_tools.trace_lines import MEMBER, OtherForm, QuickCommit, is_utf8, quick_commit, quick_entry, quick_fields
 
 KINDS = ("namespace", "commit", "check", "content")
 NINE = b"9"[0]
-MEMBER = re.compile(b"@[a-z]")
 STEP = 1_024
 # Of so many texts the names are kept.
 NAMED = 100_000
@@ -368,16 +366,6 @@ def _may_touch(kept: Union[Commit, bytes], user: int) -> bool:
     return kept.changes is not None or any(given.user == user or isinstance(given.user, Userset) for given in kept.add + kept.remove)
 
 
-def is_utf8(data: bytes) -> bool:
-    if data.isascii():
-        return True
-    try:
-        data.decode("utf-8")
-    except UnicodeDecodeError:
-        return False
-    return True
-
-
 def _take_lines(trace: Trace, data: bytes, step: Callable[[int], None]) -> None:
     """Raises Fault on the first line that the program refuses."""
     line, is_quick = 0, is_utf8(data)
@@ -392,6 +380,18 @@ def _take_lines(trace: Trace, data: bytes, step: Callable[[int], None]) -> None:
                                                       % (limits.LINE_BYTES, limits.INPUT_BYTES)]) from None
     except Refusal as refusal:
         raise Fault("trace", line, str(refusal), refusal.details) from None
+
+
+def read_lines(numbered: Iterable[tuple[int, bytes]]) -> Trace:
+    """The trace of lines with their numbers; raises Fault on the first that is refused."""
+    trace = Trace()
+    for line, raw in numbered:
+        try:
+            if not (is_utf8(raw) and trace.take_quickly(line, raw)):
+                trace.take(line, raw)
+        except Refusal as refusal:
+            raise Fault("trace", line, str(refusal), refusal.details) from None
+    return trace
 
 
 def read_trace(data: bytes, step: Callable[[int], None] = lambda line: None) -> Trace:

@@ -73,14 +73,14 @@ class Recorded(Case):
         self.service_port = int(one.stdout.readline().split()[1])
         return one
 
-    def start_recorder(self, *words, folder="log", is_ready=True):
+    def start_recorder(self, *words, folder="log", is_ready=True, said="said"):
         """A recorder, which can be asked; its standard error goes to a file."""
         self.port = free_port()
-        said = open(self.path("said"), "w+", encoding="utf-8")
-        self.addCleanup(said.close)
+        file = open(self.path(said), "w+", encoding="utf-8")
+        self.addCleanup(file.close)
         one = self.start(os.path.join(TOOLS, "record"), "--" + self.SERVICE, "http://127.0.0.1:%d" % self.service_port, "--listen",
-                         "127.0.0.1:%d" % self.port, "--out", folder, *words, stderr=said)
-        self.wait_for(lambda: not is_ready or "recording " in self.get("said"), lambda: self.get("said"))
+                         "127.0.0.1:%d" % self.port, "--out", folder, *words, stderr=file)
+        self.wait_for(lambda: not is_ready or "recording " in self.get(said), lambda: self.get(said))
         self.wait_for(self.is_listening)
         return one
 

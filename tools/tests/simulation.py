@@ -7,17 +7,23 @@ says: a right reply is never wrong at each state that the log leaves open, and a
 """
 import heapq
 import json
+from collections import Counter
+from functools import lru_cache
 from itertools import count, product
 from random import Random
+from unittest import mock
 
 from new_enemy_tools.importing.events import Relationship
 from new_enemy_tools.importing.openfga import ModelReader
 from new_enemy_tools.importing.refusals import Refusals
+from new_enemy_tools.importing.times import nanoseconds
 from new_enemy_tools.recording.core import Core, Now
+from new_enemy_tools.recording.joining import Join
 from new_enemy_tools.recording.lines import time_text
 from new_enemy_tools.recording.messages import Beat, Bye, Ended, Started
 from new_enemy_tools.recording.openfga import Base, Changes, OpenFga
 from new_enemy_tools.recording.overlap import Change, Overlap
+from new_enemy_tools.recording.sketches import Given, Row
 from new_enemy_tools.recording.stored import Stored
 
 WALL = 1_700_000_000 * 10 ** 9
@@ -39,9 +45,17 @@ TUPLES += [("group", group, "member", "user", user, None) for group in GROUPS fo
 GOALS = [("document", one, relation, user) for one in DOCUMENTS for relation in ("viewer", "reader") for user in USERS]
 
 
-def rules():
-    refusals = Refusals(True)
-    found = ModelReader("the model", refusals).rules(MODEL)
+# Stands in a state where the model is another one, by which a viewer that is blocked is a reader too; it bears on each question.
+OPEN = ("group", None, "model", None, None, None)
+
+
+@lru_cache(None)
+def rules(is_open=False, name="M"):
+    """The rules of the model above, or of the open one."""
+    refusals, model = Refusals(True), json.loads(json.dumps({**MODEL, "id": name}))
+    if is_open:
+        model["type_definitions"][2]["relations"]["reader"] = {"computedUserset": {"relation": "viewer"}}
+    found = ModelReader("the model", refusals).rules(model)
     assert not refusals.refused, refusals.refused
     return found, refusals
 
@@ -50,12 +64,12 @@ RULES = rules()
 
 
 def holds(state, goal):
-    """What the model above says of a goal, by its meaning."""
+    """What the model of a state says of a goal, by its meaning."""
     kind, name, relation, user = goal
     viewer = ("document", name, "viewer", "user", user, None) in state or any(
         ("document", name, "viewer", "group", group, "member") in state and ("group", group, "member", "user", user, None) in state
         for group in GROUPS)
-    return viewer and (relation == "viewer" or ("document", name, "blocked", "user", user, None) not in state)
+    return viewer and (relation == "viewer" or OPEN in state or ("document", name, "blocked", "user", user, None) not in state)
 
 
 class Service:
@@ -67,6 +81,20 @@ class Service:
         self.feed, self.changes = [], {}
         self.places = count(1)
         self.busy = set()
+        # when each model came, but for the first
+        self.models = []
+
+    def change_model(self, now):
+        live = OPEN not in self.states[-1]
+        self.times.append(now)
+        self.states.append(self.states[-1] ^ {OPEN})
+        self.changes[now] = [(OPEN, live)]
+        self.models.append(now)
+
+    def model(self, now):
+        """The number of the newest model, and its rules."""
+        number = sum(at <= now for at in self.models)
+        return number, rules(number % 2 == 1, "M%d" % number)
 
     def commit(self, now, changes, place, stamped):
         state = set(self.states[-1])
@@ -93,8 +121,10 @@ class Service:
 class Asked:
     """A check as it was: when it was passed on and answered, its reply, and the states that it may have had."""
 
-    def __init__(self, number, goal, began, newest, save):
+    def __init__(self, number, goal, began, newest, save, world, shows=None):
         self.number, self.goal, self.began, self.newest, self.save = number, goal, began, newest, save
+        # the recorder that it passes, and the content check whose version it shows
+        self.world, self.shows = world, shows
         self.ended = self.reply = None
         self.is_planted = False
 
@@ -118,6 +148,17 @@ class World:
         self.whole = set()
         self.tell_at = {"proxy": 0, "feed": 0}
         self.under_way, self.quiet_since = 0, 0
+        # how many models were read
+        self.model = 0
+
+    def everything(self):
+        """All checks, and the lines of the log."""
+        return self.checks, [json.loads(one) for one in b"".join(self.lines).splitlines()]
+
+    def _show(self, saved):
+        """A version is shown by a check of its own."""
+        goal = self.random.choice([one for one in GOALS if one[1] == saved.goal[1]])
+        self._ask(Asked(next(self.numbers), goal, self.now, self.random.random() < 0.8, False, self, saved))
 
     # Time
 
@@ -143,6 +184,8 @@ class World:
         self._begin_feed()
         for _ in range(shape.requests):
             self.later(3, shape.length, self._request)
+        if shape.models:
+            self.later(5, shape.length, self._change_model)
         self.own(5, 5, self._beat)
         while self.events:
             at, _, work, given = heapq.heappop(self.events)
@@ -189,17 +232,24 @@ class World:
 
     # The feed
 
-    def _begin_feed(self):
-        began = self.now
+    def _begin_store(self):
         for given in self.random.sample(TUPLES, self.random.choice((0, 0, 4))):
             self.service.commit(self.now - 5 * STEP, [(given, True)], next(self.service.places), self.now - 10 * STEP - self.shape.horizon)
-        changes, stored = [change_of(one) for one in self.service.page(self.now, (0, 0), 100)[0]], Stored()
+
+    def _begin_feed(self):
+        began = self.now
+        self._begin_store()
+        listed, end = self.service.page(self.now, (0, 0), 100)
+        changes, stored = [change_of(one) for one in listed], Stored()
         for change in changes:
             stored.take(change)
-        end = self.service.feed[-1][:2] if self.service.feed else (0, 0)
+        self.known += [(self.now, one[4]) for one in listed]
+        self.last_began = began
         self.now += STEP
         self.overlap.begin(changes, (0, 0), end, self.now)
-        self.core.take(Base(STORE, None, stored, [], "end", *RULES, began, self.now), self._at())
+        self.model, found = self.service.model(self.now)
+        self.known += [(self.now, at) for at in self.service.models[:self.model]]
+        self.core.take(Base(STORE, None, stored, [], "end", *found, began, self.now), self._at())
         self._drain()
         self.own(1, 3, self._read, self.overlap)
 
@@ -221,7 +271,12 @@ class World:
             return
         read = overlap.take([change_of(one) for one in found], cursor, began, self.now)
         assert read is not None
-        self._tell("feed", Changes(began, self.now, pages == 1, read._replace(cursor=str(read.cursor)), None))
+        number, model = self.service.model(self.now)
+        is_other, self.model = number != self.model, number
+        self._tell("feed", Changes(began, self.now, pages == 1, read._replace(cursor=str(read.cursor)), model if is_other else None))
+        self.known += [(self.now, at) for at in self.service.models[:number]]
+        for at in self.service.models[:number]:
+            self.since.setdefault(at, self.last_began)
         self.known += [(self.now, one[4]) for one in found]
         for one in found:
             self.since.setdefault(one[4], max(0, self.last_began - self.shape.horizon))
@@ -236,6 +291,10 @@ class World:
             self._write()
         else:
             self._check()
+
+    def _change_model(self):
+        """Once; one that comes and goes between two readings is not known to a recorder."""
+        self.service.change_model(self.now)
 
     def _write(self):
         taken = self.random.sample(TUPLES, self.random.choice((1, 1, 1, 2)))
@@ -271,7 +330,9 @@ class World:
 
     def _check(self):
         random = self.random
-        asked = Asked(next(self.numbers), random.choice(GOALS), self.now, random.random() < 0.6, random.random() < 0.25)
+        self._ask(Asked(next(self.numbers), random.choice(GOALS), self.now, random.random() < 0.6, random.random() < 0.25, self))
+
+    def _ask(self, asked):
         self.checks.append(asked)
         self._tell("proxy", Started(asked.number, self.now, asked.save, "check"))
         self.later(0, 6, self._evaluate, asked)
@@ -301,13 +362,148 @@ class World:
 
     def _answer(self, asked):
         asked.ended = self.now
+        if asked.save and asked.reply and self.shape.shows:
+            self.later(0, 8, self._show, asked)
         kind, name, relation, user = asked.goal
         body = {"tuple_key": {"user": "user:" + user, "relation": relation, "object": "%s:%s" % (kind, name)}}
         if asked.newest:
             body["consistency"] = "HIGHER_CONSISTENCY"
         self._tell("proxy", Ended(asked.number, "check", "/stores/S/check", WALL + asked.began, WALL + self.now, self.now,
-                                  "v%d" % asked.number if asked.save else None, None, None, 200, json.dumps(body).encode(),
-                                  json.dumps({"allowed": asked.reply}).encode(), None))
+                                  "v%d" % asked.number if asked.save else None, asked.shows and "v%d" % asked.shows.number, None, 200,
+                                  json.dumps(body).encode(), json.dumps({"allowed": asked.reply}).encode(), None))
+
+
+class Beside(World):
+    """One more recorder in a world, with clients of its own; it begins and ends when it is told."""
+
+    def __init__(self, seed, main):
+        self.main = main
+        super().__init__(seed, main.shape)
+        self.service, self.events, self.order, self.random, self.numbers = main.service, main.events, main.order, main.random, main.numbers
+        self.whole = main.whole
+
+    @property
+    def now(self):
+        return self.main.now
+
+    @now.setter
+    def now(self, at):
+        self.main.now = at
+
+    @property
+    def under_way(self):
+        return self.main.under_way
+
+    @under_way.setter
+    def under_way(self, count):
+        self.main.under_way = count
+
+    @property
+    def quiet_since(self):
+        return self.main.quiet_since
+
+    @quiet_since.setter
+    def quiet_since(self, at):
+        self.main.quiet_since = at
+
+    def _begin_store(self):
+        """What is stored was there before."""
+
+    def _show(self, saved):
+        self.main._show(saved)
+
+
+class Apart(World):
+    """No request passes the recorder, which has the changes alone; an application says what it asked."""
+
+    def __init__(self, seed):
+        super().__init__(seed, Shape(Random("shape %d" % seed)))
+        self.core = Core(OpenFga(STORE, 0, self.shape.hold, self.shape.told_horizon, True), self.shape.hold / 1e9)
+        self.said = [{"event": "own", "format": 1, "service": "openfga", "store": STORE, "time": time_text(WALL)}]
+
+    def _tell(self, way, message):
+        if way == "feed" or isinstance(message, Beat):
+            super()._tell(way, message)
+        elif isinstance(message, Ended) and message.call == "check":
+            request = json.loads(message.request)
+            key = request["tuple_key"]
+            row = {"event": "asked", "began": time_text(message.begun), "ended": time_text(message.at), "reply": json.loads(message.response)["allowed"],
+                   "goal": [*key["object"].split(":"), key["relation"], *key["user"].split(":")], "newest": "consistency" in request}
+            self.said.append({**row, **({"saves": message.save} if message.save else {}), **({"shows": message.version} if message.version else {})})
+
+    def _answer_write(self, number, changes, asked, committed):
+        """The recorder does not see it."""
+
+    def everything(self):
+        said = [*self.said, {"event": "over", "time": time_text(WALL + self.now), "asked": len(self.said) - 1}]
+        own = Given("own", lambda: (Row("own", number, row) for number, row in enumerate(said, 1)), True)
+        return self.checks, list(Join([given_of("log", self.lines)], 0, [own], self.shape.stale).lines())
+
+
+class Crowd(World):
+    """Recorders of which each has a part of the requests. Some begin later, and some end before the others; versions that are saved through
+    one are shown through another."""
+
+    def __init__(self, seed, count):
+        super().__init__(seed, Shape(Random("shape %d" % seed)))
+        self.recorders = [self]
+        for beside in [Beside("%d beside %d" % (number, seed), self) for number in range(1, count)]:
+            self.later(0, self.random.choice((0, self.shape.length)), self._join, beside)
+        self.all = [self]
+        self.over = set()
+
+    def _join(self, beside):
+        self.all.append(beside)
+        self.recorders.append(beside)
+        beside._begin_feed()
+        beside.own(5, 5, beside._beat)
+        if self.random.random() < 0.3:
+            self.later(10, self.shape.length, self._leave, self.random.choice(self.recorders))
+
+    def _leave(self, recorder):
+        """It gets no more requests, and ends when those under way are done."""
+        if recorder in self.recorders and len(self.recorders) > 1:
+            self.recorders.remove(recorder)
+            self.own(60, 90, self._end, recorder)
+
+    def _end(self, recorder):
+        recorder.core.take(Bye(1), self._at())
+        recorder._drain()
+        recorder.core.end_asked(self._at())
+        recorder.core.end(self._at())
+        recorder._drain()
+        recorder.overlap = None
+        self.over.add(recorder)
+
+    def _request(self):
+        recorder = self.random.choice(self.recorders)
+        (recorder._write if self.random.random() < self.shape.writes else recorder._check)()
+
+    def _show(self, saved):
+        goal = self.random.choice([one for one in GOALS if one[1] == saved.goal[1]])
+        recorder = self.random.choice(self.recorders)
+        recorder._ask(Asked(next(self.numbers), goal, self.now, self.random.random() < 0.8, False, recorder, saved))
+
+    def run(self):
+        super().run()
+        for recorder in self.all[1:]:
+            if recorder not in self.over:
+                self._end(recorder)
+        return self
+
+    def everything(self):
+        """All checks, and the lines of the joined log."""
+        given = [given_of("log%d" % number, recorder.lines) for number, recorder in enumerate(self.all)]
+        self.random.shuffle(given)
+        checks = [one for recorder in self.all for one in recorder.checks]
+        return checks, list(Join(given, 0).lines())
+
+
+def given_of(name, lines):
+    """A log as a join takes it."""
+    head = {"event": "log", "number": 1, "service": "openfga"}
+    rows = [head, *(json.loads(one) for one in b"".join(lines).splitlines())]
+    return Given(name, lambda: (Row(name, number, row) for number, row in enumerate(rows, 1)), True)
 
 
 def change_of(row):
@@ -331,6 +527,8 @@ class Shape:
         self.hold = 150 * STEP
         self.poll, self.page, self.delay = random.choice((1, 4)), random.choice((2, 50)), random.choice((0, 3, 10))
         self.requests, self.length = random.choice((6, 12, 25)), random.choice((20, 60, 150))
+        self.shows = False
+        self.models = False
         self.writes, self.ours, self.faults = random.choice((0.3, 0.6)), random.choice((1, 0.5, 0)), random.choice((0, 0.3))
 
 
@@ -339,9 +537,14 @@ class Verdict:
 
     def __init__(self, world):
         self.world = world
-        self.rows = [json.loads(one) for one in b"".join(world.lines).splitlines()]
+        self.checks, self.rows = world.everything()
         self.states = [frozenset()]
         self.entries = {}
+        # the changes so far, and those before each entry
+        self.changed, self.behind = [], {}
+        # since when something may be lost, and the versions that are left out
+        self.gaps, self.has_gap, self.left_out = [], False, set()
+        self.saved, self.showing = {}, {}
         self.lost = 0
         for row in self.rows:
             self._take(row)
@@ -349,6 +552,7 @@ class Verdict:
     def _take(self, row):
         if row["event"] == "write":
             state = set(self.states[-1])
+            self.changed += [(tuple(one), side) for side in ("add", "remove") for one in row.get(side, ())]
             for one in row.get("add", ()):
                 state.add(tuple(one + [None] * (6 - len(one))))
             for one in row.get("remove", ()):
@@ -361,15 +565,32 @@ class Verdict:
             else:
                 assert row["revision"] == len(self.states), "a revision is left out, or comes twice"
                 self.states.append(frozenset(state))
+        elif row["event"] == "rules" and "revision" in row:
+            assert row["revision"] == len(self.states), "a revision is left out, or comes twice"
+            is_open = "exclusion" not in json.dumps(row)
+            self.states.append(self.states[-1] | {OPEN} if is_open else self.states[-1] - {OPEN})
+            self.changed.append((("group", "model"), "add" if is_open else "remove"))
+        elif row["event"] == "rules" and "exclusion" not in json.dumps(row):
+            self.states[-1] |= {OPEN}
         elif row["event"] in ("check", "content"):
             assert row["time"] not in self.entries, "a check stands twice"
             self.entries[row["time"]] = (row, len(self.states) - 1)
+            self.behind[row["time"]] = Counter(self.changed)
+            if row["event"] == "content" and "version" in row:
+                self.saved[row["goal"][1], row["version"]] = row
+            elif "version" in row:
+                self.showing[row["time"]] = self.saved.get((row["goal"][1], row["version"]))
         elif row["event"] == "gap":
             self.lost += row.get("lost", 0)
+            self.has_gap |= row.get("from") is None
+            self.gaps.append(nanoseconds(row.get("from")) or 0)
+        elif row["event"] == "unmapped":
+            self.lost += "detail" in row and "userset" not in row
+            self.left_out.add(tuple(row["version"])[1:] if "version" in row else None)
 
     def faults(self):
         """What the log says that is not so, or does not say; none where it holds."""
-        answered = [one for one in self.world.checks if one.ended is not None]
+        answered = [one for one in self.checks if one.ended is not None]
         found = []
         if len(self.entries) + self.lost != len(answered):
             found.append("%d checks were answered, and %d stand in the log and %d are counted" % (len(answered), len(self.entries), self.lost))
@@ -385,6 +606,10 @@ class Verdict:
         low, high = row.get("newest_between") or row.get("snapshot_between") or (row["snapshot"],) * 2
         if row["event"] == "content" and behind > low:
             yield "a content check stands behind a commit that it need not have seen (check %d)" % one.number
+        if row["event"] == "content" and self._known_before(one) - self.behind[row["time"]]:
+            yield "a content check stands before a commit that was known (check %d)" % one.number
+        if one.shows is not None:
+            yield from self._of_version(one, row, high)
         if high > behind and row["event"] == "check":
             yield "a check stands before a commit that it may have seen (check %d)" % one.number
         is_passed = any(holds(self.states[at], one.goal) == one.reply for at in range(low, high + 1))
@@ -397,10 +622,32 @@ class Verdict:
         if is_passed and not self._may_be(one, one.began - stale):
             yield "a wrong reply is called right (check %d)" % one.number
 
+    def _of_version(self, one, row, high):
+        """What the log says of a check that shows a version: that is known, unless it may be lost, and no older state was demanded."""
+        saved = self.showing[row["time"]]
+        if saved is None:
+            since = min(self.gaps, default=nanoseconds(row["time"]) + 1)
+            if not self.has_gap and (one.goal[1], row["version"]) not in self.left_out and nanoseconds(row["time"]) < since:
+                yield "a version that was saved is not known (check %d)" % one.number
+        elif one.newest and not one.is_planted and not one.shows.is_planted:
+            low = (saved.get("newest_between") or [saved["snapshot"]])[0]
+            states = [at for at in range(low, len(self.states)) if holds(self.states[at], one.shows.goal)]
+            if states and states[0] > high:
+                yield "a right check is called older than its version (check %d)" % one.number
+
+    def _known_before(self, one):
+        """The changes that were known when a check began, by how often each came; but for those of tuples that came and went meanwhile, of
+        which it is not known which write made which."""
+        known = {at for told, at in one.world.known if told <= one.began}
+        changes = self.world.service.changes
+        recent = Counter(given for at in changes if one.began - 40 * STEP < at <= one.began for given, _ in changes[at])
+        return Counter((tuple(part for part in given if part is not None), "add" if live else "remove")
+                       for at in known for given, live in changes[at] if recent[given] < 2)
+
     def _may_be(self, one, since):
         """Whether a reply may be right for all that is known: of the changes that bear on it all count that were known, and some of those
         that may have come before the answer. A write that passed the recorder counts whole."""
-        service, world = self.world.service, self.world
+        service, world = self.world.service, one.world
         known = {at for told, at in world.known if told <= since}
         units = []
         for at in sorted(service.changes):
@@ -417,6 +664,23 @@ class Verdict:
             if holds(state, one.goal) == one.reply:
                 return True
         return False
+
+
+def run_crowd(seed, count=None, **values):
+    """The faults of one run with several recorders, whose logs are joined."""
+    world = Crowd(seed, count or Random(seed).choice((2, 2, 3)))
+    for name, value in {"shows": True, **values}.items():
+        setattr(world.shape, name, value)
+    return world, Verdict(world.run())
+
+
+def run_apart(seed, **values):
+    """The faults of one run where an application says what it asked, beside a log of the changes alone."""
+    world = Apart(seed)
+    for name, value in {"shows": True, **values}.items():
+        setattr(world.shape, name, value)
+    with mock.patch("new_enemy_tools.recording.openfga.TOLD", 0):
+        return world, Verdict(world.run())
 
 
 def run(seed, shape=None):

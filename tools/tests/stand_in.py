@@ -37,8 +37,23 @@ class Handler(BaseHTTPRequestHandler):
         pass
 
     def body(self):
-        data = self.rfile.read(int(self.headers.get("content-length", 0)))
+        is_chunked = self.headers.get("transfer-encoding", "").lower() == "chunked"
+        data = self.chunks() if is_chunked else self.rfile.read(int(self.headers.get("content-length", 0)))
         return json.loads(data) if data else {}
+
+    def handle_expect_100(self):
+        is_good = super().handle_expect_100()
+        self.wfile.flush()
+        return is_good
+
+    def chunks(self):
+        data = b""
+        while size := int(self.rfile.readline().split(b";")[0], 16):
+            data += self.rfile.read(size)
+            self.rfile.readline()
+        while self.rfile.readline().strip():
+            pass
+        return data
 
     def answer(self, value, status=200):
         data = json.dumps(value).encode()

@@ -10,7 +10,7 @@ from new_enemy_tools.commands import report as command
 from new_enemy_tools.effects import Told
 from new_enemy_tools.findings import read_report
 from new_enemy_tools.order import order_lines
-from new_enemy_tools.quick import OtherForm
+from new_enemy_tools.trace_lines import OtherForm
 from new_enemy_tools.telling import told_of
 from new_enemy_tools.trace import Trace, read_trace
 from tests.random_traces import NAMESPACES, RandomInput

@@ -19,7 +19,7 @@ GOOD = ['{"a":1,"b":[true,null,"x"]}', '{"a": 1, "b": {"c": "d:e"}}', '{"a":1,"a
 def read(text):
     """The value of a line and how its numbers are kept, or why there is none."""
     try:
-        value = located._line_value(text.encode("utf-8", "surrogatepass"))
+        value = located.line_value(text.encode("utf-8", "surrogatepass"))
         return value, json.dumps(value), str(value)
     except ValueError as fault:
         return "not JSON" if isinstance(fault, json.JSONDecodeError) else str(fault)

@@ -77,7 +77,7 @@ class OpenFga(CallsCase):
                          "not audited: content check that can't be read, first at log:3: a content check asks one question, and this line 2")
 
     def test_changes_within_a_call(self):
-        page = {"request": {"type": "doc"}, "response": {"changes": [change("user:c", at="2024-01-01T00:00:03Z")]}}
+        page = {"request": {"page_size": 50}, "response": {"changes": [change("user:c", at="2024-01-01T00:00:03Z")]}}
         self.imported(*self.words(page, {"request": key("user:c"), "response": {"allowed": True}, "snapshot": 3}))
         self.assertIn("verdict clean", self.audited())
 

@@ -37,13 +37,13 @@ class Sums(unittest.TestCase):
         lines = CHECK % b"" + CHECK % part + CHECK % b',"again":true'
         left = Coverage(2, {causes.VERSION_UNKNOWN: 1}, {causes.CONTEXTUAL: 1}, {}, 0, 0, nanoseconds("2026-01-01T00:00:00Z"),
                         nanoseconds("2026-01-02T00:00:00.5+00:00"))
-        data = lines[:-2] + mark_of(left).encode() + b"}\n"
+        data = lines[:-2] + b"," + mark_of(left).encode() + b"}\n"
         self.assertEqual(coverage_in(data), left)
         self.assertEqual(coverage_in(data + data), left.plus(left))
         self.assertEqual(coverage_in(lines), Coverage(2, {causes.VERSION_UNKNOWN: 1}))
 
     def test_a_trace_that_is_not_as_its_import_left_it_is_not_whole(self):
-        data = (CHECK % b"")[:-2] + mark_of(Coverage(2)).encode() + b"}\n"
+        data = (CHECK % b"")[:-2] + b"," + mark_of(Coverage(2)).encode() + b"}\n"
         self.assertEqual(coverage_in(data).unknown, "the trace has 1 checks, and its import left 2 in it")
         imported = b'{"kind":"namespace","name":"doc","relations":[{"name":"viewer"}],"ids":{"rows":1,"checksum":""}}\n' + CHECK % b""
         self.assertIn("does not say", coverage_in(imported).unknown)

@@ -10,7 +10,8 @@ from unittest import mock
 from new_enemy_tools import limits
 from new_enemy_tools.parting.blocks import Blocks
 from new_enemy_tools.parting.cutting import Cut
-from new_enemy_tools.parting.placing import ENTRIES, RECORDS, line_of, object_of, part_of
+from new_enemy_tools.parting.placing import line_of, object_of, part_of
+from new_enemy_tools.trace_lines import OBJECTS as ENTRIES, RECORDS
 from tests.random_traces import RandomInput
 from tests.test_parts import PartsCase, answer, parts
 

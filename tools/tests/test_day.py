@@ -64,9 +64,17 @@ class Days(DayCase):
         self.assertEqual(first, (0, "entries 2\nheld over 1\nfindings 0\nverdict clean\n", FIRST))
         # The check at 9 was held over, until a commit came to its snapshot.
         self.assertEqual((second.returncode, second.stderr), (1, SECOND))
-        self.assertEqual(second.stdout.splitlines(), [
+        self.assertEqual(self.get("days/day000002/report.txt").splitlines(), [
             "line 6: F4 open snapshot, see line 7 (one:5)", "line 6: F10 wrong reply (one:5)", "line 9: F2 old token, see line 4 (two:2)",
             "line 9: F10 wrong reply (two:2)", "entries 3", "findings 4", "verdict dirty"])
+        # What is written out has a line for each group. The two requests got one answer, which anne's removal at 4 made wrong.
+        self.assertEqual(re.sub(r"at snapshot \d+ ", "at snapshot ", second.stdout).splitlines(), [
+            "1 reply wrong (2 requests), 0 stale answers that let someone in, 0 that kept someone out, 0 harmless; "
+            "of 3 checks 1 names a content version, none carries a token",
+            "line 6: F10 wrong reply: check of doc:1#reader@user:anne at snapshot replied true, from one:5, effect wrong: someone was let in; "
+            "with F4 open snapshot; asked 2 times",
+            "line 9: F2 old token: check of doc:1#reader@user:anne at snapshot replied true, version first, see line 4, from two:2, effect none: "
+            "no ignored commit bears on the question", "entries 3", "findings 4", "verdict dirty"])
         rows = self.rows("days/day000002/report.jsonl")
         self.assertEqual(rows[0]["sums"]["wrong"], 2)
         self.assertEqual([rows[0][key] for key in ("entries", "checks", "with_version", "with_token")], [3, 3, 1, 0])
@@ -103,7 +111,8 @@ class Days(DayCase):
                 run = self.day("log", "--oldest-snapshot", "0", "--at-least", "0", words=())
                 self.assertIn(run.returncode, (0, 1))
                 self.assert_could_be_shown(run, low, high)
-                told.take("".join(line.partition(" (")[0] + "\n" for line in run.stdout.splitlines()))
+                report = self.get("days/day%06d/report.txt" % place)
+                told.take("".join(line.partition(" (")[0] + "\n" for line in report.splitlines()))
                 rows |= {"line %d: %s" % (row["line"], row["finding"]) for row in self.rows("days/day%06d/report.jsonl" % place) if "line" in row}
             self.assertEqual(told.report, whole)
             self.assertEqual(rows, {" ".join(line.split(" ")[:3]) for line in whole.splitlines() if line.startswith("line ")})
@@ -132,6 +141,22 @@ class Days(DayCase):
         self.put("log", [write(50), check(50, goal=goal, version="v2", token=50)])
         self.assertIn("line 17: audited in part, its version is not known", self.day("log", "--keep-versions", "2").stdout)
 
+    def test_a_label_that_a_waiting_check_names_is_known_when_it_is_saved_again(self):
+        """Else the program would refuse the day for its second content check of one label."""
+        goal = rel("1", "reader", "anne")
+        self.put("one", [RULES, write(1, rel("1", "viewer", "anne")), content(1, "v", goal=goal, token=1)])
+        self.put("two", [write(2, rel("2", "viewer", "bob")), check(9, goal=goal, version="v", token=9)])
+        self.put("three", [write(4, rel("3", "viewer", "bob")), content(4, "v", goal=goal, token=4), content(4, "w", goal=goal, token=4)])
+        for name in ("one", "two"):
+            self.assertIn(self.day(name, "--keep-versions", "1").returncode, (0, 6))
+        run = self.day("three", "--keep-versions", "1")
+        self.assertEqual((run.returncode, run.stdout.splitlines()[-1]), (6, "verdict incomplete"), run.stderr)
+        self.assertIn("audited in part 1: %s; not looked for: F3, F5" % causes.LABEL_AGAIN, run.stdout)
+        self.put("four", [write(12, rel("4", "viewer", "bob")), check(12, goal=goal, version="w", token=12)])
+        # The check that waited is told with its version, of which nothing is wrong; a write below its snapshot came behind it.
+        self.assertEqual(self.day("four", "--keep-versions", "1").returncode, 1)
+        self.assertEqual(self.get("days/day000004/report.txt").splitlines()[:2], ["line 6: F4 open snapshot, see line 7 (two:2)", "entries 2"])
+
     def test_gaps_are_said(self):
         self.put("log", [*LOG, {"event": "gap", "from": "2024-01-01T00:00:00Z", "to": "2024-01-01T00:00:01Z", "reason": "why"}])
         run = self.day("log")
@@ -157,7 +182,11 @@ class Days(DayCase):
         self.assertEqual(self.day("log"), (0, "entries 2\nfindings 0\nverdict clean\n", ""))
         self.put("log", [write(4), check(4, goal=goal, version="v2", token=1), write(5)])
         third = self.day("log")
-        self.assertEqual(third, (1, "line 10: F2 old token, see line 6 (log:2)\nentries 1\nfindings 1\nverdict dirty\n", cannot_show(NO_CONTENT, NO_ISSUE)))
+        self.assertEqual((third.returncode, third.stdout.splitlines()[1:], third.stderr), (1, [
+            "line 10: F2 old token: check of doc:1#viewer@user:anne at snapshot 4194308 replied true, token of 1048577, version v2, see line 6, from log:2, "
+            "effect none: no ignored commit bears on the question", "entries 1", "checks that name a content version: 1 of 1; before: 1 of 1 (day 2), 0 of 1 (day 1)",
+            "checks that carry a token: 1 of 1; before: 1 of 1 (day 2), 0 of 1 (day 1)",
+            "findings 1", "verdict dirty"], cannot_show(NO_CONTENT, NO_ISSUE)))
         os.remove(self.path("days/day000003/told"))
         told = "day: day 3 was audited by a run that was broken off; its report:\n"
         self.assertEqual(self.day("log"), (1, third.stdout, told + third.stderr))

@@ -169,8 +169,22 @@ class ByMovingEntries(Audited):
                 found[line, finding] = "none" if not is_touched(values, goal, low, high) else "changed" if is_wrong else "possible"
         return found
 
+    def assert_changes(self, values: list[dict], rows: list[dict]) -> int:
+        """At the change that an entry ignored its reply is wrong, and of a wrong reply it was right before; how many were looked at."""
+        looked = [row for row in rows if row["effect"] in ("wrong", "changed") and "ignored_at" in row]
+        for finding in {row["finding"] for row in looked}:
+            told = [row for row in looked if row["finding"] == finding]
+            for back, is_wrong in ((0, True), (1, False)) if finding == "F10" else ((0, True),):
+                moved = list(values)
+                for row in told:
+                    self.assertLessEqual(row["ignored_at"], row.get("seen", row["snapshot"]))
+                    moved[row["line"] - 1] = {**moved[row["line"] - 1], "snapshot": row["ignored_at"] - back}
+                said = self.audit(moved)
+                self.assertEqual({row["line"] for row in told if ("line %d: F10 wrong reply\n" % row["line"] in said) != is_wrong}, set())
+        return len(looked)
+
     def test_random_entries(self):
-        entries, number, seen = 0, 0, Counter()
+        entries, number, changes, seen = 0, 0, 0, Counter()
         while entries < ENTRIES:
             values = ChangingInput(Random("effects %d" % number), 40).values
             number += 1
@@ -186,9 +200,11 @@ class ByMovingEntries(Audited):
             harmless = len({line for line, _ in wanted} - changed - wrong)
             self.assertEqual([sums["sums"][key] for key in ("wrong", "let_in", "kept_out", "undecided", "harmless")],
                              [len(wrong), let_in, len(changed) - let_in, 0, harmless])
-            order = [("wrong", "changed", "undecided", "possible", "none").index(row["effect"]) for row in rows]
+            order = [(not row.get("new_enemy"), ("wrong", "changed", "undecided", "possible", "none").index(row["effect"])) for row in rows]
             self.assertEqual(order, sorted(order))
+            changes += self.assert_changes(values, rows)
             seen.update((finding, effect) for (_, finding), effect in wanted.items())
+        self.assertGreater(changes, ENTRIES // 20)
         for finding in ("F1", "F2", "F3", "F4", "F6"):
             for effect in ("none", "possible", "changed"):
                 self.assertGreater(seen[finding, effect], 0, (finding, effect, seen))
@@ -229,9 +245,9 @@ class Stories(Audited):
                         check(20, 12, False, version="v2"), check(21, 12, True)]
         sums, *rows = self.told(values, self.audit(values))
         self.assertEqual(sums["sums"]["text"], "1 reply wrong, 1 stale answer that let someone in, 0 that kept someone out, 3 harmless; "
-                         "of 5 checks 4 name a content version, none carries a token")
+                         "of these 1 let a new enemy in; of 5 checks 4 name a content version, none carries a token")
         self.assertEqual([(row["line"], row["finding"], row["effect"], row.get("outcome"), row.get("seen")) for row in rows], [
-            (9, "F10", "wrong", "let in", None), (5, "F2", "changed", "let in", 12), (6, "F2", "possible", None, 12),
+            (5, "F2", "changed", "let in", 12), (9, "F10", "wrong", "let in", None), (6, "F2", "possible", None, 12),
             (7, "F2", "none", None, 12), (8, "F2", "none", None, 12)])
 
     def test_kept_out(self):

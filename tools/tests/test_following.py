@@ -8,7 +8,7 @@ from random import Random
 from new_enemy_tools import limits
 from new_enemy_tools.findings import FORMS
 from new_enemy_tools.parting.blocks import Blocks
-from new_enemy_tools.quick import OtherForm
+from new_enemy_tools.trace_lines import OtherForm
 from new_enemy_tools.windowing import effects
 from new_enemy_tools.windowing.auditing import How
 from new_enemy_tools.windowing.carrying import Keep
@@ -103,17 +103,17 @@ class Followed(WindowCase):
 
     def compare_effects(self, found, own):
         """They are those by the trace that is read in full; whether they could be told without."""
-        rows = effects.json_rows(found, own, None)
+        rows = effects.texts_of(found, own, None)
         with unittest.mock.patch.object(effects, "ON_TOKENS", tuple(FORMS)):
-            self.assertEqual(effects.json_rows(found, own, None), rows)
+            self.assertEqual(effects.texts_of(found, own, None), rows)
         with unittest.mock.patch.object(effects.Lines, "quickly", side_effect=OtherForm):
-            self.assertEqual(effects.json_rows(found, own, None), rows)
+            self.assertEqual(effects.texts_of(found, own, None), rows)
         with unittest.mock.patch.object(effects.Lines, "in_full", side_effect=KeyError):
             try:
-                self.assertEqual(effects.json_rows(found, own, None), rows)
+                self.assertEqual(effects.texts_of(found, own, None), rows)
             except KeyError:
                 return False
-        return len(rows) > 1
+        return len(rows.rows) > 1
 
     def test_lines_that_are_refused(self):
         long = b" " * (limits.LINE_BYTES + 1)

@@ -216,9 +216,10 @@ class TakenAhead(CoreCase):
                              ({**OTHER, "revision": 30}, 0), ({**content(20, "x", goal=rel("1", "viewer", "u3")), "newest": True}, 2),
                              (between(check(20, False, rel("1", "viewer", "u1")), 19, 20, False), 2), ({**check(20, False, rel()), "sequence": 3}, 0)):
             self.assertEqual(self.compare([*plain, line]), (status, line.get("sequence") == 3), line)
-        self.assertEqual(self.compare([{**one, "sequence": place} for place, one in enumerate(plain)]), (0, False))
+        for places, is_ahead in ((range(len(plain)), True), ((*range(1, len(plain)), 0), False)):
+            self.assertEqual(self.compare([{**one, "sequence": place} for place, one in zip(places, plain)]), (0, is_ahead))
         self.assertEqual(self.compare([{**one, "time": "2024-01-01T00:00:%02dZ" % place} for place, one in enumerate(plain)], "--skew", "9"), (0, False))
-        self.assertEqual(self.compare([]), (0, False))
+        self.assertEqual(self.compare([]), (0, True))
 
 
 class Numbers(CoreCase):

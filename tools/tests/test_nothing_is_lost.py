@@ -195,7 +195,7 @@ class NothingIsLost(Case):
                 self.assertIsNone(coverage.unknown)
                 not_audited += sum(coverage.not_audited.values())
                 asked += coverage.checks + sum(coverage.lost.values())
-                found |= set(re.findall(r"F10 wrong reply \((log[0-9]+:[0-9]+)\)", run.stdout))
+                found |= set(re.findall(r"F10 wrong reply \((log[0-9]+:[0-9]+)\)", self.get("days/day%06d/report.txt" % day)))
             self.assertEqual(asked + not_audited + summary["held_over"], service.answered, number)
             wrong = set(service.wrong_places(cuts))
             self.assertLessEqual(found, wrong, number)

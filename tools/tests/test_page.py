@@ -72,8 +72,8 @@ class Parts(Pages):
     def test_a_story(self) -> None:
         page = Reader(self.bob())
         stories = page.all("details")
-        self.assertEqual([(one["id"], one["data-effect"]) for one, _ in stories], [("story-7-F10", "wrong"), ("story-5-F2", "changed")])
-        self.assertEqual([text for _, text in page.all("h3")], ["User 21 was let in: F10 wrong reply", "User 20 was let in: F2 old token"])
+        self.assertEqual([(one["id"], one["data-effect"]) for one, _ in stories], [("story-5-F2", "changed"), ("story-7-F10", "wrong")])
+        self.assertEqual([text for _, text in page.all("h3")], ["User 20 was let in: F2 old token (a new enemy)", "User 21 was let in: F10 wrong reply"])
         told = re.sub("<[^>]*>", "", self.bob().split('id="story-5-F2"')[1].split("</ol>")[0])
         for words in ("5doc:plan#viewer@20 was added (line 2)", "9The check looked here, and the service said yes (line 5)",
                       "10doc:plan#viewer@20 was removed, ignored (line 3)",
@@ -82,7 +82,7 @@ class Parts(Pages):
             self.assertIn(words, told)
         places = [told.index(words) for words in ("was added", "looked here", "was removed", "got version", "had to be seen")]
         self.assertEqual(places, sorted(places))
-        self.assertEqual([text for _, text in page.all("figcaption")][1:], ["What the check saw, at 9: allowed", "What it had to see, at 12: denied"])
+        self.assertEqual([text for _, text in page.all("figcaption")][:2], ["What the check saw, at 9: allowed", "What it had to see, at 12: denied"])
         self.assertIn("The request carried no token, so it demanded nothing.", [text for _, text in page.all("p")])
 
     def test_table_and_sums(self) -> None:
@@ -90,9 +90,9 @@ class Parts(Pages):
         rows = [one for one, _ in page.all("tr") if "data-effect" in one]
         self.assertEqual([(row["data-finding"], row["data-effect"], row["data-kind"], row["data-namespace"], row["data-object"],
                            row["data-user"]) for row in rows],
-                         [("F10", "wrong", "check", "doc", "plan", "21"), ("F2", "changed", "check", "doc", "plan", "20"),
+                         [("F2", "changed", "check", "doc", "plan", "20"), ("F10", "wrong", "check", "doc", "plan", "21"),
                           ("F2", "none", "check", "doc", "plan", "21")])
-        self.assertEqual([text for one, text in page.all("strong") if text.isdecimal()], ["1", "1", "0", "0", "1"])
+        self.assertEqual([text for one, text in page.all("strong") if text.isdecimal()], ["1", "1", "1", "0", "0", "1"])
         self.assertEqual({one.get("name") for one, _ in page.all("select") + page.all("input")},
                          {"effect", "finding", "kind", "namespace", "object", "user"})
 
@@ -167,8 +167,8 @@ class Browser(Pages):
     def test_filters(self) -> None:
         place = self.put("page.html", self.bob())
         for part, wanted, said in (
-                ("", ["F10 21", "F2 20", "F2 21"], "3 of 3"), ("#effect=changed", ["F2 20"], "1 of 3"), ("#user=21", ["F10 21", "F2 21"], "2 of 3"),
-                ("#finding=F2&user=2", ["F2 20", "F2 21"], "2 of 3"), ("#object=LA&namespace=doc&kind=check", ["F10 21", "F2 20", "F2 21"], "3 of 3"),
+                ("", ["F2 20", "F10 21", "F2 21"], "3 of 3"), ("#effect=changed", ["F2 20"], "1 of 3"), ("#user=21", ["F10 21", "F2 21"], "2 of 3"),
+                ("#finding=F2&user=2", ["F2 20", "F2 21"], "2 of 3"), ("#object=LA&namespace=doc&kind=check", ["F2 20", "F10 21", "F2 21"], "3 of 3"),
                 ("#object=none", [], "0 of 3"), ("#kind=content", [], "0 of 3")):
             page = self.loaded(place + part)
             self.assertEqual(self.shown(page), wanted, part)
@@ -181,7 +181,9 @@ class Browser(Pages):
 
     def test_a_link_to_a_story(self) -> None:
         """All is shown, and the story is open, however far down it stands."""
-        values = BOB[:3] + [check(20, 9, True, zookie=zookie_text(10)) for _ in range(12)]
+        values = [BOB[0], {"kind": "commit", "at": 5, "add": ["doc:plan#viewer@%d" % user for user in range(12)]},
+                  {"kind": "commit", "at": 10, "remove": ["doc:plan#viewer@%d" % user for user in range(12)]}]
+        values += [check(user, 9, True, zookie=zookie_text(10)) for user in range(12)]
         page = self.page(values, "".join("line %d: F1 stale\n" % (line + 4) for line in range(12)) + "entries 12\nfindings 12\nverdict dirty\n")
         self.assertEqual(page.count("<details"), 12)
         place = self.put("page.html", page)

@@ -2,6 +2,7 @@
 import glob
 import json
 import os
+import re
 import signal
 import subprocess
 from random import Random
@@ -165,7 +166,8 @@ class Audited(PiecesCase):
             run = self.run_tool("report", "--ids", "ids.jsonl", "cut/part%s.trace" % part, "cut/part%s.report" % part)
             self.assertEqual((run.returncode, run.stderr), (0, ""))
             found += run.stdout.splitlines()[1:]
-        self.assertEqual(sorted(found), sorted(wanted))
+        # The numbers of groups are those of a report.
+        self.assertEqual(*(sorted(re.sub('"group":[0-9]+,', "", row) for row in rows) for rows in (found, wanted)))
         line = str(json.loads(wanted[0])["line"])
         explained = [self.run_tool("explain", "cut/part%s.trace" % part, line) for part in "123"]
         self.assertEqual(sorted(one.returncode for one in explained), [0, 2, 2])

@@ -49,6 +49,14 @@ class OpenFga(LogCase):
         self.assertEqual([line for line in self.said.splitlines() if line.startswith("passed")], [
             "passed over 1: failed request (2000)", "passed over 2: line of the service's own log", "passed over 1: other call (ListStores)"])
 
+    def test_a_log_of_two_stores_is_refused(self):
+        """A check of one is not judged by the tuples of another. Calls that decide and write nothing may be of any."""
+        key = {"user": "user:a", "relation": "viewer", "object": "doc:1"}
+        log = [change("user:a"), *[self.printed("Check", {"store_id": store, "tuple_key": key}, {"allowed": True}, snapshot=1) for store in "aaba"]]
+        self.assertEqual(self.refused(*self.words(*log)), ["log:4: this call is of the store b, and that of log:2 of the store a: give the lines of one store"])
+        read = self.printed("GetStore", {"store_id": "b"}, {"id": "b"})
+        self.assertEqual(self.report(log[0], read, log[1], log[2]), "entries 2\nfindings 0\nverdict clean\n")
+
     def test_calls_of_which_the_log_has_no_payload_are_counted(self):
         bare = [{key: one for key, one in self.printed(call, {}).items() if key != "raw_request"} for call in ("Check", "ListStores")]
         health = {**self.printed("Check", {}, {}), "grpc_service": "grpc.health.v1.Health"}

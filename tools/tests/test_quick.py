@@ -7,7 +7,7 @@ from unittest import mock
 from hostile.inputs import worked_cases
 from new_enemy_tools import strictjson
 from new_enemy_tools.files import split_joined
-from new_enemy_tools.quick import quick_commit, quick_touch
+from new_enemy_tools.trace_lines import quick_commit, quick_touch
 from new_enemy_tools.texts import Tuple, Userset
 from new_enemy_tools.trace import Fault, Trace, is_utf8, read_trace
 from tests.random_traces import RandomInput

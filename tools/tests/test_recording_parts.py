@@ -1,5 +1,6 @@
 """The parts of tools/record alone: what reads along with HTTP, the order of a log, its files, and what goes to the keeper."""
 import errno
+import json
 import os
 import socket
 import threading
@@ -8,8 +9,9 @@ from random import Random
 from unittest import mock
 
 from new_enemy_tools.importing.chained import end_of, head_of
-from new_enemy_tools.recording.http_reading import BODY, Messages, Strange, path_of
-from new_enemy_tools.recording.log_files import InUse, LogFault, LogFiles, Place
+from new_enemy_tools.importing.times import nanoseconds
+from new_enemy_tools.recording.http_reading import BODY, Head, Messages, Strange, path_of
+from new_enemy_tools.recording.log_files import LATER, InUse, LogFault, LogFiles, Place
 from new_enemy_tools.recording.lines import gap_line, line, write_line
 from new_enemy_tools.recording.messages import Beat, Bye, Ended, Lost, Started, Teller, messages_from
 from new_enemy_tools.recording.openfga import call_of as openfga_call
@@ -34,6 +36,19 @@ def read_along(data, sizes):
         messages.feed(data[at:at + size])
         at += size
     return heads, bodies
+
+
+class Gone(Case):
+    def test_a_proxy_that_dies_with_something_unread_ends_the_messages(self):
+        """What it told before comes all the same."""
+        mine, its = socket.socketpair()
+        self.addCleanup(mine.close)
+        teller = Teller(its)
+        its.setblocking(False)
+        teller.tell(Beat(7))
+        mine.send(b"unread")
+        its.close()
+        self.assertEqual(list(messages_from(mine)), [Beat(7)])
 
 
 class Reading(Case):
@@ -61,10 +76,17 @@ class Reading(Case):
                      post + b"Content-Length: 2\r\nTransfer-Encoding: chunked\r\n\r\n", post + b"Transfer-Encoding: gzip, chunked\r\n\r\n",
                      post + b"A: b\r\n folded\r\n\r\n", post + b"Content-Length: +2\r\n\r\n{}", chunked + b"+1\r\na\r\n0\r\n\r\n",
                      chunked + b"0x1\r\na\r\n0\r\n\r\n", chunked + b"1_0\r\n", chunked + b"1\na\r\n0\r\n\r\n", chunked + b"1\r\nab\r\n0\r\n\r\n",
+                     post + b"A: b\x0bc\r\n\r\n", post + b"A: \x7f\r\n\r\n", chunked + b"0\r\nbad trailer\r\n\r\n", chunked + b"0\r\nA : b\r\n\r\n",
                      b"\x16\x03\x01"):
             for size in (1, 3, len(data)):
                 with self.subTest(data=data, size=size), self.assertRaises(Strange):
                     read_along(data + b"GET /later HTTP/1.1\r\n\r\n", lambda size=size: size)
+
+    def test_first_lines_of_requests(self):
+        for first, is_request in ((b"POST /x HTTP/1.1", True), (b"GET /x?a=b HTTP/1.0", True), (b"POST /x HTTP/1.11", False), (b"POST /x HTTP/1.1 ", False),
+                                  (b"POST /x HTTP/1.", False), (b"POST /x y HTTP/1.1", False), (b"P(ST /x HTTP/1.1", False), (b"POST /\tx HTTP/1.1", False),
+                                  (b"POST /\xc3\xa9 HTTP/1.1", False), (b"POST  /x HTTP/1.1", False), (b"POST /x HTTP/2.0", False)):
+            self.assertEqual(Head(first).is_request, is_request, first)
 
     def test_which_path(self):
         self.assertEqual([path_of(one) for one in ("/stores/S/%63heck", "/stores/S/check#x", "/stores/S/check?a=/b", "http://host/stores/S/check",
@@ -176,6 +198,16 @@ class Files(Case):
                 log, left = self.log()
                 self.assertEqual((left.writes, left.revision, left.place.cursor), (writes, revision, "c"))
                 self.assertEqual(end_of(self.paths()[0]).said, end_of(self.paths()[0])[:2])
+
+    def test_a_service_whose_clock_is_ahead_says_nothing_of_when_a_recorder_was_killed(self):
+        log, _ = self.log()
+        self.begin(log)
+        log.add(gap_line(0, 10 ** 11, "why", 1) + write_line(1, [], [], 4 * 10 ** 18))
+        os.close(log._lock)
+        self.log()
+        with open(self.paths()[0], "rb") as file:
+            gaps = [json.loads(raw) for raw in file if b'"the recorder was killed"' in raw]
+        self.assertEqual([nanoseconds(gap["from"]) for gap in gaps], [10 ** 11 - int((log.hold + LATER) * 1e9)])
 
     def test_a_file_without_its_beginning_is_begun_anew(self):
         log, _ = self.log()

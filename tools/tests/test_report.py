@@ -5,7 +5,8 @@ import xml.etree.ElementTree
 from collections import Counter
 from random import Random
 
-from new_enemy_tools.looked import _by_bytes, looked_in
+from new_enemy_tools.looked import looked_in
+from new_enemy_tools.trace_lines import _plainly, counted_in
 from tests.support import EXAMPLES, Case
 
 FOUND = """line 5: F1 stale
@@ -42,8 +43,8 @@ class Reports(Case):
         run = self.report()
         self.assertEqual((run.returncode, run.stderr), (0, ""))
         sums, *rows = [json.loads(line) for line in run.stdout.splitlines()]
-        self.assertEqual(sums, {"sums": {"wrong": 1, "let_in": 2, "kept_out": 0, "undecided": 3, "harmless": 4, "text": SUMS},
-                                "entries": 11, "findings": 10, "told": 10, "ignored": 0, "known": 0, "verdict": "dirty",
+        self.assertEqual(sums, {"sums": {"wrong": 1, "let_in": 2, "kept_out": 0, "undecided": 3, "harmless": 4, "text": SUMS, "new_enemies": 0,
+                                         "distinct": {"wrong": 1, "let_in": 2, "kept_out": 0, "undecided": 3, "harmless": 4}}, "groups": 10, "entries": 11, "findings": 10, "told": 10, "ignored": 0, "known": 0, "verdict": "dirty",
                                 "named": False, "checks": 8, "with_version": 2, "with_token": 2, "with_unknown": 0, "note": NOTE,
                                 "coverage": {"state": "whole", "checks": 11, "whole": 11}})
         self.assertEqual([(row["finding"], row["effect"], row["severity"]) for row in rows], [
@@ -53,7 +54,7 @@ class Reports(Case):
         self.assertRegex(rows[1].pop("key"), "^[0-9a-f]{16}$")
         self.assertEqual(rows[1], {"line": 5, "finding": "F1", "text": "stale", "effect": "changed", "severity": "error",
                                    "outcome": "let in", "seen": 7, "kind": "check", "goal": "doc:a#viewer@1",
-                                   "snapshot": 5, "reply": True, "zookie": "z1-0000000000000007", "zookie_at": 7})
+                                   "snapshot": 5, "reply": True, "zookie": "z1-0000000000000007", "zookie_at": 7, "ignored_at": 7, "group": 2})
         by_finding = {row["finding"]: row for row in rows}
         self.assertEqual([(by_finding[one]["related"], by_finding[one]["related_at"]) for one in ("F2", "F3", "F4")],
                          [(3, 5), (4, 7), (9, 9)])
@@ -99,14 +100,14 @@ class Reports(Case):
         self.assertEqual(json.loads(self.report("--ids", "ids.jsonl").stdout.splitlines()[2])["named"],
                          "doc:a#viewer@user:anne,\n")
         self.assertIn("@user:anne,\\u000a at", self.report("--ids", "ids.jsonl", "--form", "annotations").stdout)
-        self.assertIn("@user:anne,? at", self.report("--ids", "ids.jsonl", "--form", "junit").stdout)
+        self.assertIn("@user:anne,\\u000a at", self.report("--ids", "ids.jsonl", "--form", "junit").stdout)
 
     def test_nothing_was_audited(self):
         self.put("trace.jsonl", "")
         run = self.report(text="entries 0\nfindings 0\nverdict clean\n")
         sums = json.loads(run.stdout)
         self.assertEqual((run.returncode, sums["sums"]["text"], sums["checks"]), (
-            6, "0 replies wrong, 0 stale answers that let someone in, 0 that kept someone out, 0 harmless", 0))
+            0, "0 replies wrong, 0 stale answers that let someone in, 0 that kept someone out, 0 harmless", 0))
         self.assertNotIn("note", sums)
         self.assertEqual(sums["coverage"], {"state": "empty", "checks": 0, "whole": 0})
 
@@ -156,7 +157,8 @@ class WhatNobodyLookedFor(Case):
 
     def test_no_version_and_no_token(self):
         sums = self.sums(SAVED, asked(), asked())
-        self.assertEqual(sums["sums"], {"wrong": 0, "let_in": 0, "kept_out": 0, "undecided": 0, "harmless": 0, "text": "0 replies wrong, stale "
+        self.assertEqual(sums["sums"], {"wrong": 0, "let_in": 0, "kept_out": 0, "undecided": 0, "harmless": 0, "new_enemies": 0,
+                                        "distinct": {"wrong": 0, "let_in": 0, "kept_out": 0, "undecided": 0, "harmless": 0}, "text": "0 replies wrong, stale "
                          "answers to checks not looked for, 0 harmless; of 2 checks none names a content version, none carries a token"})
         self.assertEqual(sums["note"], "Stale answers to checks were not looked for: no check names the content version that it shows, and none "
                          "carries a token. " + DO)
@@ -196,7 +198,8 @@ class WhatNobodyLookedFor(Case):
         """The same, of lines of which some have escapes, spaces, values that are names of keys, or are broken."""
         random, ways = Random("what nobody looked for"), Counter()
         values = {"goal": ["doc:a#b@1", "version"], "zookie": ["z", None, "version"], "version": ["v", None, "zookie", "kind"], "named": ["v", None],
-                  "from": ["a", "\\", '"version":"', "kind"]}
+                  "from": ["a", "\\", '"version":"', "kind"], "again": [True, False, None, "true"], "part": ["x", None, 3, "again"],
+                  "odd": [{"kind": "check", "again": True}, {"part": "y"}, ["version"]]}
         for _ in range(2000):
             rows, lines = [], []
             for _ in range(random.randrange(6)):
@@ -211,7 +214,12 @@ class WhatNobodyLookedFor(Case):
             wanted = (len(checks), *(sum(row.get(key) is not None for row in checks) for key in ("version", "zookie", "named")))
             data = "\n".join(lines).encode() + random.choice([b"", b"\n"])
             self.assertEqual(looked_in(data), wanted, data)
-            ways[_by_bytes(data) is None] += 1
+            entries = [row for row in rows if row["kind"] in ("check", "content")]
+            found = counted_in(data)
+            self.assertEqual((found.contents, found.again, sorted(found.part)), (
+                len(entries) - len(checks), sum(row.get("again") is True for row in entries),
+                sorted(row["part"] for row in entries if isinstance(row.get("part"), str))), data)
+            ways[_plainly(data) is None] += 1
         self.assertGreater(min(ways[True], ways[False]), 200)
 
     def test_a_page(self):
@@ -219,6 +227,7 @@ class WhatNobodyLookedFor(Case):
         page = self.run_tool("report", "--form", "html", "trace.jsonl", "-", stdin="entries 1\nfindings 0\nverdict clean\n").stdout
         self.assertIn("<li><strong>not looked for:</strong> stale, let someone in</li>", page)
         self.assertIn('<p id="note">Stale answers to checks were not looked for: no check names', page)
+        self.assertIn('<span class="verdict incomplete">clean</span>', page)
         self.sums(asked(version="v"))
         page = self.run_tool("report", "--form", "html", "trace.jsonl", "-", stdin="line 2: F6 unknown version\nentries 1\nfindings 1\nverdict dirty\n").stdout
         self.assertIn("<li><strong>0</strong> stale, let someone in</li>", page)

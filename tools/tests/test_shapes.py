@@ -49,7 +49,7 @@ class Shapes(BlockCase):
             self.assertEqual(known.match(json.dumps(value, ensure_ascii=False).encode()) is not None, is_taken, value)
 
     def test_what_has_no_shape(self):
-        for value in (check(1, newest=False), check(1, sequence=1), check(1, clock="a"), check(1, goal=rel(user_relation="viewer")),
+        for value in (check(1, newest=False), check(1, sequence=-1), check(1, clock="a"), check(1, goal=rel(user_relation="viewer")),
                       check(1, goal=["doc", "1"]), check("1"), check(1, goal=rel("é")), check(1, snapshot_between=[1, 2])):
             self.assertIsNone(shape(value), value)
         self.assertIsNotNone(shape(check(1, token=None, version=None), separators=(" , ", " : ")))

@@ -29,6 +29,15 @@ class Holds(Case):
             recorded, lost = recorded + len(verdict.entries), lost + verdict.lost
         self.assertGreater(recorded, 2 * lost)
 
+    def test_a_model_that_changes(self):
+        """Checks behind it are judged by it, and those that may have been answered by either are right by one."""
+        recorded = 0
+        for seed in range(100):
+            _, verdict = run(seed, shape_of(seed, models=True))
+            self.assertEqual(verdict.faults(), [], "seed %d" % seed)
+            recorded += sum(any("revision" in row for row in verdict.rows if row["event"] == "rules") for _ in verdict.entries)
+        self.assertGreater(recorded, 100)
+
     def test_where_changes_come_one_by_one_little_is_lost(self):
         recorded = lost = 0
         for seed in range(100):
@@ -84,6 +93,16 @@ class Finds(Case):
     def test_a_write_of_several_tuples_that_counts_by_halves(self):
         with mock.patch("new_enemy_tools.recording.openfga._writes", lambda changes, makers: [[place] for place in range(len(changes))]):
             self.assertIn("a wrong reply is called right", self.found(300, faults=0.6, ours=1, writes=0.6, requests=25))
+
+    def test_a_model_that_counts_from_the_beginning(self):
+        kept = OpenFga._take_rules
+
+        def take(self, rules, refusals, message, core):
+            kept(self, rules, refusals, message, core)
+            self.places.rows[-1].low = self.places.rows[-1].high = 0
+            self.places.ends[-1] = 0
+        with mock.patch.object(OpenFga, "_take_rules", take):
+            self.assertIn("a right reply is called wrong", self.found(200, models=True, faults=0))
 
     def test_a_cache_that_is_not_told(self):
         with mock.patch.object(OpenFga, "_stale", lambda self, clock: clock):

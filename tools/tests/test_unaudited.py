@@ -2,6 +2,7 @@
 import hashlib
 import json
 import os
+import re
 import shutil
 import subprocess
 import sys
@@ -9,6 +10,7 @@ import xml.etree.ElementTree
 
 from new_enemy_tools.ids import locked
 from new_enemy_tools.importing import causes
+from new_enemy_tools.parting.blocks import BLOCK
 from tests.support import TOOLS, Case
 from tests.test_core import RULES, check, content, rel, write
 
@@ -102,7 +104,7 @@ class Rows(Unaudited):
         self.put("log", [RULES, write(1, rel()), content(1, "v", token=1), CONTEXTUAL, write(2), content(2, "v", token=2),
                          check(2, False, token=2, version="v")])
         run = self.day()
-        self.assertEqual((run.returncode, run.stdout.splitlines()), (1, [
+        self.assertEqual((run.returncode, self.get("days/day000001/report.txt").splitlines()), (1, [
             "line 6: F10 wrong reply (log:7)", "entries 3", "checks: 1 whole, 2 in part, 1 not audited",
             "audited in part 1: %s; not looked for: F3, F5" % causes.LABEL_AGAIN, "audited in part 1: %s; not looked for: F2" % causes.LABEL_TWICE,
             "not audited 1: contextual tuples", "findings 1", "verdict dirty"]))
@@ -152,7 +154,7 @@ class Tables(Unaudited):
         self.assertRegex(run.stderr, "work/ids.jsonl is not there or cut short: .*left goes with a table of [0-9]+ bytes")
         self.assertFalse(os.path.exists(self.path("days/day000002")))
         os.rename(self.path("kept"), table)
-        self.assertEqual(self.day(log="next").stdout.splitlines()[0], "line 5: F10 wrong reply (next:2)")
+        self.assertIn("\nline 5: F10 wrong reply: check of doc:1#viewer@user:bob at snapshot", self.day(log="next").stdout)
 
     def test_a_table_of_a_kept_day_that_is_another(self):
         self.begin()
@@ -277,7 +279,7 @@ class Told(Unaudited):
         self.assertEqual((sums["coverage"]["from"], sums["coverage"]["to"]), ("2024-05-06T08:02:00.5Z", "2024-05-06T08:05:00.5Z"))
         self.assertIn("asked 2024-05-06T08:05:00.5Z, ignored a change of 2024-05-06T08:03:00.5Z", self.audit("--form", "text").stdout)
         self.audit("--form", "html", "--out", "page.html")
-        self.assertIn("log:7, 2024-05-06T08:05:00.5Z", self.get("page.html"))
+        self.assertIn("log:7, asked 2024-05-06T08:05:00.5Z", self.get("page.html"))
 
     def test_evidence_with_a_space_behind_its_colon_is_evidence(self):
         self.put("log", [RULES, write(1, rel()), check(1)])
@@ -328,6 +330,35 @@ class Told(Unaudited):
         listed = self.get("days/index.html")
         self.assertEqual([part.split('"')[0] for part in listed.split('<a href="')[1:]],
                          ["day000004/report.html", "day000002/report.html", "day000001/report.html"])
-        self.assertEqual([part.split('"')[0] for part in listed.split('<span class="verdict ')[1:]], ["incomplete", "clean", "dirty", "clean"])
+        self.assertEqual(re.findall('<span class="verdict ([a-z]+)">([a-z]+)<', listed), [
+            ("incomplete", "incomplete"), ("incomplete", "clean"), ("dirty", "dirty"), ("clean", "clean")])
         self.assertIn("<td>2024-05-06T08:01:00Z</td>", listed)
         self.assertEqual(self.summary(1)["looked"], {"checks": 1, "with_version": 1, "with_token": 1, "with_unknown": 0})
+
+
+class CutShort(Unaudited):
+    """A trace that an import wrote is not taken for one that was written by hand where its last line, with the sum, is gone."""
+
+    def window(self, *words):
+        return self.run_tool("window", "audit", *words, "--program", os.path.abspath(os.environ["NEW_ENEMY"]), "--jobs", "1")
+
+    def test_a_trace_that_goes_on(self):
+        self.put("log", [RULES, write(1, rel()), check(1)])
+        self.imported("events", "--from-empty", "--go-on", "left", "--trace", "first", "log")
+        self.assertEqual(self.window("first", "--out", "state").returncode, 0)
+        self.put("next", [check(1), write(2), check(2), check(2)])
+        self.imported("events", "--go-on", "left", "--state", "state", "--trace", "second", "next")
+        self.assertEqual(self.window("second", "--state", "state").returncode, 0)
+        self.put("cut", "".join(line + "\n" for line in self.get("second").splitlines()[:-1]))
+        run = self.window("cut", "--state", "state")
+        self.assertEqual((run.returncode, run.stdout.splitlines()[-1]), (6, "verdict incomplete"))
+        self.assertIn("not known what was left out: the trace does not say what its import left out; import the logs again\n", run.stdout)
+
+    def test_a_trace_of_many_blocks(self):
+        self.put("log", [RULES, write(1, rel()), *[check(1)] * 6000])
+        self.imported("events", "--from-empty", "log")
+        self.assertGreater(os.path.getsize(self.path("trace.jsonl")), 2 * BLOCK)
+        self.assertEqual(self.window("trace.jsonl").returncode, 0)
+        self.put("cut", "".join(line + "\n" for line in self.get("trace.jsonl").splitlines()[:-1]))
+        run = self.window("cut")
+        self.assertEqual((run.returncode, run.stdout.splitlines()[-1]), (6, "verdict incomplete"))

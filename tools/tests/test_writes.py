@@ -1,4 +1,6 @@
 """Writes that a log has in the calls that made them; changes that were read twice; and calls within events of CloudEvents."""
+import os
+
 from tests import test_openfga, test_postgres, test_spicedb
 from tests.support import Case
 from tests.test_openfga import MODEL, THIS, change
@@ -68,6 +70,31 @@ class SpiceDb(Case):
         nothing = delete | {"response": {**delete["response"], "relationshipsDeletedCount": "0"}}
         self.report(nothing, self.check(3, reply="NO"))
 
+    def test_a_deletion_among_calls_that_are_told_is_refused(self):
+        """A stale reply behind it would be right. The watch stream has what was deleted."""
+        delete = {"request": {"relationshipFilter": {"resourceType": "doc"}}, "response": {"deletedAt": {"token": token_text(3)}}}
+        stale = test_spicedb.check(3)
+        found = self.refused(*self.words(written(1, update("user:a")), delete, stale))
+        self.assertEqual([line.split(",")[0] for line in found], ["log:2: this DeleteRelationships wrote"])
+        gone = watch(3, update("user:a", operation="DELETE"))
+        self.assertIn("F10 wrong reply", self.report(watch(1, update("user:a")), written(1, update("user:a")), delete, gone, stale))
+
+    def test_a_deletion_that_the_watch_stream_does_not_have_is_refused(self):
+        """As where the stream was cut. Of one that does not say how much it deleted it is not known whether it has to be there."""
+        response = {"deletedAt": {"token": token_text(3)}, "relationshipsDeletedCount": "1"}
+        delete = {"request": {"relationshipFilter": {"resourceType": "doc"}}, "response": response}
+        self.assertEqual(self.refused(*self.words(watch(1, update("user:a")), delete, test_spicedb.check(3))), [
+            "log:2: this DeleteRelationships deleted something, and the log has no change of its revision: give the whole watch stream"])
+        gone = watch(3, update("user:a", operation="DELETE"))
+        self.assertIn("F10 wrong reply", self.report(watch(1, update("user:a")), delete, gone, test_spicedb.check(3)))
+
+    def test_changes_of_some_types_are_refused(self):
+        seen = watch(1, update("user:a"))
+        found = self.refused(*self.words({"request": {"optional_object_types": ["doc"]}, "response": seen}, test_spicedb.check(1)))
+        self.assertEqual(found, ["log:1: the request of these changes has `optionalObjectTypes`, and an audit needs all changes: ask without it"])
+        self.assertEqual(self.report({"request": {"optionalObjectTypes": []}, "response": seen}, test_spicedb.check(1)),
+                         "entries 1\nfindings 0\nverdict clean\n")
+
     def test_what_a_status_says(self):
         asked = {"request": self.check(1)["request"]}
         fine = [self.check(1, status=status) for status in ("OK", 200, "200 OK", {"code": 0}, {"code": "OK"})]
@@ -126,12 +153,40 @@ class OpenFga(Case):
 
     def test_a_log_whose_writes_have_no_time_and_no_changes_is_refused(self):
         self.assertEqual(self.refused(*self.words(self.write(None, ["user:a"]), self.check(at=0), self.write(None, ["user:b"]))), [
-            "log:1: this Write wrote, and no line of the log says all of what: give the changes as ReadChanges answers them, or each "
-            "line of Write its `time`"])
+            "log:1: " + self.UNSEEN])
+
+    UNSEEN = ("this Write wrote, and no line of the log says all of what: give the changes as ReadChanges answers them, or each "
+              "line of Write its `time`, of which none may pass over what is there already")
+
+    def test_one_write_among_others_whose_changes_are_not_known_is_refused(self):
+        """A stale reply behind it would be right: a deletion without a time, and places of changes that were none."""
+        written = self.write(1, ["user:a", "user:b"])
+        stale = self.check(at=AT % 5)
+        self.assertEqual(self.refused(*self.words(written, self.write(None, deletes=["user:a"]), stale)), ["log:2: " + self.UNSEEN])
+        for side, key in ("writes", "on_duplicate"), ("deletes", "onMissing"):
+            odd = self.write(2, ["user:a"], ["user:c"])
+            odd["request"][side][key] = "ignore"
+            self.assertEqual(self.refused(*self.words(written, odd, stale)), ["log:2: " + self.UNSEEN])
+            self.assertEqual(self.report(written, odd, change("user:a"), self.check()), "entries 1\nfindings 0\nverdict clean\n")
+            os.remove(self.path("trace.jsonl"))
+            os.remove(self.path("ids.jsonl"))
+            odd["request"][side][key] = "error"
+            self.assertEqual(self.report(written, odd, self.check(at=AT % 1)), "entries 1\nfindings 0\nverdict clean\n")
+            os.remove(self.path("trace.jsonl"))
+            os.remove(self.path("ids.jsonl"))
 
     def test_a_write_that_failed_wrote_nothing(self):
         failed = self.write(2, deletes=["user:a"]) | {"response": {"code": "write_failed_due_to_invalid_input", "message": "no"}}
         self.assertEqual(self.report(self.write(1, ["user:a"]), failed, self.check(at=1)), "entries 1\nfindings 0\nverdict clean\n")
+
+    def test_changes_of_one_type_are_refused(self):
+        """A change of another type between them is not there, and the places are others."""
+        page = {"changes": [change("user:a")], "continuation_token": ""}
+        self.assertEqual(self.refused(*self.words({"request": {"type": "doc", "page_size": 50}, "response": page}, self.check(at=1))), [
+            "log:1: the request of these changes has `type`, and an audit needs all changes: ask without it"])
+        none = {"request": {"type": "doc"}, "response": {"changes": []}}
+        for request in {"type": "", "page_size": 50}, {}:
+            self.assertEqual(self.report({"request": request, "response": page}, none, self.check(at=1)), "entries 1\nfindings 0\nverdict clean\n")
 
     def test_a_page_of_changes_that_was_read_twice_is_seen(self):
         page = [change("user:a", at=AT % 1), change("user:b", at=AT % 1), change("user:a", at=AT % 2, operation="DELETE"),

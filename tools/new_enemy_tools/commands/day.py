@@ -20,7 +20,7 @@ import os
 import shutil
 import sys
 from argparse import Namespace
-from typing import NamedTuple, Optional
+from typing import Callable, NamedTuple, Optional
 
 from new_enemy_tools.commands import import_logs
 from new_enemy_tools.commands.running import Parser
@@ -30,20 +30,25 @@ from new_enemy_tools.files import write_whole
 from new_enemy_tools.ids import Ids
 from new_enemy_tools.importing.chained import end_of, head_of
 from new_enemy_tools.importing.going_on import cut, read_left, write_left
+from new_enemy_tools.looked import Looked
 from new_enemy_tools.parting.faults import PartsFault
 from new_enemy_tools.progress import Progress
-from new_enemy_tools.shown import plain
+from new_enemy_tools.shown import tell as tell_line
 from new_enemy_tools.windowing.auditing import How
-from new_enemy_tools.windowing.days import INDEX, PAGE, Days, Summary, digest_of
-from new_enemy_tools.windowing.effects import json_rows, looked_at
+from new_enemy_tools.windowing.carrying import version_of
+from new_enemy_tools.windowing.days import COMPARED, INDEX, MAIL, PAGE, Days, Summary, compared, digest_of
+from new_enemy_tools.windowing.effects import looked_at, texts_of
 from new_enemy_tools.windowing.faults import WindowFault
 from new_enemy_tools.windowing.following import Following
+from new_enemy_tools.windowing.keeping import keep_trace
 from new_enemy_tools.windowing.reading import Own
 from new_enemy_tools.windowing.run import Audited, Refused, audited, audited_so_far, parts_needed, state_before, write_next
+from new_enemy_tools.windowing.state import State
 
 # The worst of two runs first.
 STATUSES = (2, 1, 6, 0)
 NOTHING_NEW = 8
+KEEP_DAYS = 30
 OWN_WORDS = ("--trace", "--ids", "--go-on", "--state")
 CANNOT = "cannot show "
 
@@ -51,6 +56,8 @@ CANNOT = "cannot show "
 def given_of(words: list[str]) -> Namespace:
     parser = Parser(prog="ne day", description=__doc__)
     parser.add_argument("--at-least", type=int, default=1, metavar="N", help="refuse a day with fewer checks and content checks (1)")
+    parser.add_argument("--keep-days", type=int, default=KEEP_DAYS, metavar="N", help="keep the traces of so many days, compressed, for explain, "
+                        "draw and report (%d)" % KEEP_DAYS)
     parser.add_argument("--html", action="store_true", help="write a page of the day, report.html in its folder, and index.html over all days")
     add_auditing(parser)
     add_keeping(parser)
@@ -62,6 +69,8 @@ def given_of(words: list[str]) -> Namespace:
     refuse_usage(parser, given)
     if given.at_least < 0:
         parser.error("--at-least is below 0")
+    if given.keep_days < 0:
+        parser.error("--keep-days is below 0")
     for word in OWN_WORDS:
         if any(one == word or one.startswith(word + "=") for one in given.words):
             parser.error("%s is the folder's own: leave it out" % word)
@@ -84,7 +93,7 @@ def leave_out(days: Days, given: Namespace) -> None:
     old = {log for log, number in numbers.items() if chain is not None and number <= chain[0]}
     last = max(numbers, key=numbers.__getitem__)
     if last not in old and end_of(last).said is None:
-        sys.stderr.write("day: %s is still written, and is audited with the next day\n" % last)
+        tell_line("day: %s is still written, and is audited with the next day" % last, sys.stderr)
         old.add(last)
     given.logs = [log for log in given.logs if log not in old]
     given.words = [word for word in given.words if word not in old]
@@ -99,8 +108,15 @@ def go_on(days: Days, given: Namespace) -> import_logs.Before:
         shutil.copyfile(ids, days.work("ids.jsonl"))
     if path is None and days.before("import.txt") is not None:
         raise WindowFault("the file `left` of day %d is not there, and without it nothing goes on from that day" % (days.last or 0))
-    left = None if path is None else cut(read_left(path), state.head.base, given.keep_versions)
-    return import_logs.Before(left, state, Ids(days.work("ids.jsonl")), Following(state, How(given.program, given.jobs, given.parts or 1)))
+    table = Ids(days.work("ids.jsonl"))
+    left = None if path is None else cut(read_left(path), state.head.base, given.keep_versions, carrying(state, table, given.keep_versions))
+    return import_logs.Before(left, state, table, Following(state, How(given.program, given.jobs, given.parts or 1)))
+
+
+def carrying(state: State, table: Ids, kept: Optional[int]) -> Callable[[list[str]], bool]:
+    """Whether a state carries a version, by the names of the service. Where versions are let go, one that a waiting check names is not."""
+    versions = {version_of(row.raw) for row in state.rows if row.kind == "v"} if kept is not None else set()
+    return lambda key: ("%s:%s" % (table.name("namespace", key[0]), table.object(key[0], key[1])), table.version(key[2])) in versions
 
 
 class NothingNew(WindowFault):
@@ -164,7 +180,8 @@ def made(days: Days, given: Namespace, digest: str, progress: Progress) -> int:
                           % (found.window.entries, given.at_least))
     write_next(days.work("state"), found.window, found.carry)
     ids = before.ids if given.service != "trace" else None
-    write_reports(days, found, own, ids)
+    looked = looked_at(found, own)
+    write_reports(days, found, own, ids, looked)
     if given.html:
         # Days without pages need not wait until this is loaded.
         from new_enemy_tools.windowing.pages import write_day
@@ -172,21 +189,26 @@ def made(days: Days, given: Namespace, digest: str, progress: Progress) -> int:
     told = found.told
     write_whole(days.work("summary.json"), [json.dumps(Summary(
         [os.path.basename(log) for log in given.logs], digest, told.status(given.allow_unaudited), told.entries, len(told.findings),
-        sum(told.coverage.not_audited.values()), told.held, told.verdict, told.coverage.row(), looked_at(found, own)._asdict())._asdict())])
+        sum(told.coverage.not_audited.values()), told.held, told.verdict, told.coverage.row(), looked._asdict())._asdict())])
+    if given.keep_days:
+        keep_trace(days.work(), found, own)
     if os.path.exists(days.work("trace")):
         os.remove(days.work("trace"))
     number = days.keep()
-    days.tidy()
+    days.tidy(given.keep_days)
     if given.html:
         from new_enemy_tools.windowing.pages import index
         write_whole(os.path.join(given.folder, INDEX), index(days))
     return number
 
 
-def write_reports(days: Days, found: Audited, own: Own, ids: Optional[Ids]) -> None:
-    """The report as text, and with effects as rows of JSON."""
-    write_whole(days.work("report.txt"), found.told.lines(places(found, own).__getitem__))
-    write_whole(days.work("report.jsonl"), json_rows(found, own, ids) if found.told.findings else ())
+def write_reports(days: Days, found: Audited, own: Own, ids: Optional[Ids], looked: Looked) -> None:
+    """The report as text, and with effects as rows of JSON; and what is written out, with what the days before say of their checks."""
+    texts, where = texts_of(found, own, ids), places(found, own).__getitem__
+    write_whole(days.work("report.txt"), found.told.lines(where))
+    write_whole(days.work("report.jsonl"), texts.rows)
+    before = [(number, days.summary(number).looked) for number in days.numbers[:-COMPARED - 1:-1]]
+    write_whole(days.work(MAIL), found.told.lines(where, texts.groups, compared(looked, before)))
 
 
 def cannot_show(said: list[str], is_first: bool) -> list[str]:
@@ -215,7 +237,7 @@ def tell(days: Days, number: int) -> int:
 def run(days: Days, given: Namespace, progress: Progress) -> int:
     # What a run left that was killed.
     days.end()
-    days.tidy()
+    days.tidy(given.keep_days)
     leave_out(days, given)
     digest, last, status = digest_of(given.logs), days.last, 0
     if last is not None and not days.is_told(last):
@@ -247,10 +269,10 @@ def main(words: list[str]) -> int:
         sys.stderr.write(fault.answer.error)
         return fault.answer.status
     except (WindowFault, PartsFault) as fault:
-        sys.stderr.write(plain("day: %s" % fault) + "\n")
+        tell_line("day: %s" % fault, sys.stderr)
         return NOTHING_NEW if isinstance(fault, NothingNew) else 2
     except OSError as fault:
-        sys.stderr.write("day: %s\n" % ": ".join(str(said) for said in (fault.filename, fault.strerror) if said))
+        tell_line("day: %s" % ": ".join(str(said) for said in (fault.filename, fault.strerror) if said), sys.stderr)
         return 5
     finally:
         gc.enable()

@@ -10,6 +10,7 @@ from new_enemy_tools.files import read_ids, traced
 from new_enemy_tools.graph import Drawing, svg
 from new_enemy_tools.names import Names
 from new_enemy_tools.progress import Progress
+from new_enemy_tools.windowing.keeping import kept_day
 
 
 def main(words: list[str]) -> int:
@@ -17,11 +18,12 @@ def main(words: list[str]) -> int:
     parser.add_argument("--ids", metavar="FILE", help="the table of ids, for names in place of numbers")
     parser.add_argument("--at", metavar="TIMESTAMP", type=int, help="what the rules say at another timestamp than the snapshot")
     parser.add_argument("--form", choices=("dot", "svg"), default="dot", help="the text for Graphviz (dot), or what it draws")
-    parser.add_argument("trace", metavar="TRACE", help="the trace, or joined input")
+    parser.add_argument("trace", metavar="TRACE", help="the trace, joined input, or the folder of a day of ne day")
     parser.add_argument("line", metavar="LINE", type=int, help="the line of the entry")
     given = parser.parse_args(words)
     with Progress() as progress:
-        trace = traced(given.trace, progress)
+        day = kept_day(given.trace)
+        trace = traced(given.trace, progress) if day is None else day.trace()
         drawing = Drawing(trace, trace.entry_on(given.line), Names(read_ids(given.ids, trace)), given.at)
         text = "".join(line + "\n" for line in drawing.lines())
     sys.stdout.write(svg(text) if given.form == "svg" else text)

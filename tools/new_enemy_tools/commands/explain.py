@@ -7,7 +7,8 @@ Without lines: the first line of the trace, and then of the evidence, that the p
 fault; the status is then 2. TRACE may be joined input.
 """
 import sys
-from typing import Optional
+from functools import partial
+from typing import Callable, Optional
 
 from new_enemy_tools.commands.running import Parser, say
 from new_enemy_tools.evidence import check_evidence, records_of
@@ -16,9 +17,10 @@ from new_enemy_tools.files import read_bytes, read_ids, read_joined, read_trace_
 from new_enemy_tools.judging import judge
 from new_enemy_tools.names import Names
 from new_enemy_tools.progress import Progress
-from new_enemy_tools.shown import plain
+from new_enemy_tools.shown import tell
 from new_enemy_tools.strange import hints
-from new_enemy_tools.trace import Fault
+from new_enemy_tools.trace import Fault, Trace
+from new_enemy_tools.windowing.keeping import kept_day
 
 
 def refusal(part: bytes, evidence: Optional[bytes]) -> int:
@@ -33,35 +35,41 @@ def refusal(part: bytes, evidence: Optional[bytes]) -> int:
     except Fault as fault:
         say(fault, sys.stdout)
         for hint in hints(read):
-            sys.stdout.write("  %s\n" % hint)
+            tell("  " + hint, sys.stdout)
         return fault.status
     sys.stdout.write("nothing is refused\n")
     return 0
 
 
-def explained(part: bytes, evidence: Optional[bytes], lines: list[int], ids_path: Optional[str]) -> None:
+def explained(read: Callable[[Progress], Trace], evidence: Optional[bytes], lines: list[int], ids_path: Optional[str]) -> None:
     with Progress() as progress:
-        trace = read_trace_of(part, progress)
+        trace = read(progress)
         entries = [trace.entry_on(line) for line in lines]
         records = None if evidence is None else records_of(evidence, trace, set(lines), progress.steps("read %s records"))
         explainer = Explainer(trace, Names(read_ids(ids_path, trace)))
     for number, entry in enumerate(entries):
         judgement = None if records is None else judge(trace, entry, records.get(entry.line))
         for said in [""] * (number > 0) + list(explainer.lines(entry, judgement)):
-            sys.stdout.write(plain(said) + "\n")
+            tell(said, sys.stdout)
 
 
 def main(words: list[str]) -> int:
     parser = Parser(prog="ne explain", description=__doc__)
     parser.add_argument("--ids", metavar="FILE", help="the table of ids, for names in place of numbers")
     parser.add_argument("--evidence", metavar="FILE", help="evidence for the trace")
-    parser.add_argument("trace", metavar="TRACE", help="the trace, or joined input")
+    parser.add_argument("trace", metavar="TRACE", help="the trace, joined input, or the folder of a day of ne day")
     parser.add_argument("lines", metavar="LINE", nargs="*", type=int, help="the line of an entry")
     given = parser.parse_args(words)
-    part, evidence = split_joined(read_joined(given.trace))
+    day = kept_day(given.trace)
+    part, evidence = (b"", None) if day is not None else split_joined(read_joined(given.trace))
     if given.evidence is not None:
         evidence = read_bytes(given.evidence)
     if not given.lines:
+        if day is not None:
+            parser.error("give the LINE of an entry: the trace of a day was audited, and so nothing of it is refused")
         return refusal(part, evidence)
-    explained(part, evidence, given.lines, given.ids)
+    read: Callable[[Progress], Trace] = partial(read_trace_of, part)
+    if day is not None:
+        read = day.read
+    explained(read, evidence, given.lines, given.ids)
     return 0

@@ -33,7 +33,8 @@ from new_enemy_tools.importing.writing import Piece, Written
 from new_enemy_tools.parting.faults import PartsFault
 from new_enemy_tools.pieces import LEAST_BYTES, PiecesWriter
 from new_enemy_tools.progress import Progress
-from new_enemy_tools.shown import plain
+from new_enemy_tools.shown import tell
+from new_enemy_tools.trace_lines import with_mark
 from new_enemy_tools.windowing.following import Following
 from new_enemy_tools.windowing.state import State, read_state
 
@@ -162,7 +163,7 @@ def marked(made: Written, refusals: Refusals) -> Iterator[Piece]:
             yield last
         last = piece if piece.lines else last
     if last is not None:
-        yield Piece(b"%s%s}\n" % (last.lines.rstrip(b"\n")[:-1], mark_of(made.coverage(refusals)).encode()))
+        yield Piece(with_mark(last.lines.rstrip(b"\n"), mark_of(made.coverage(refusals))) + b"\n")
 
 
 def write(given: Namespace, pieces: Iterable[Piece], ids: Ids, refusals: Refusals, following: Optional[Following]) -> PiecesWriter:
@@ -183,7 +184,7 @@ def write(given: Namespace, pieces: Iterable[Piece], ids: Ids, refusals: Refusal
 
 def say(text: str) -> None:
     """A line on standard error, in which no letter of a stranger's text would be another command to a terminal."""
-    sys.stderr.write(plain(text) + "\n")
+    tell(text, sys.stderr)
 
 
 def told_left_out(refusals: Refusals) -> None:

@@ -11,6 +11,7 @@ from new_enemy_tools.coverage import coverage_in
 from new_enemy_tools.files import read_joined, split_joined
 from new_enemy_tools.linting import odd_in
 from new_enemy_tools.progress import Progress
+from new_enemy_tools.shown import tell
 
 
 def main(words: list[str]) -> int:
@@ -22,7 +23,7 @@ def main(words: list[str]) -> int:
         data = split_joined(read_joined(given.trace))[0]
         found, coverage = odd_in(data, progress.steps("read %s lines")), coverage_in(data)
     for odd in found:
-        sys.stdout.write(str(odd) + "\n")
+        tell(str(odd), sys.stdout)
     if not found:
         sys.stdout.write("nothing odd\n")
     for line in () if coverage.is_plain else coverage.lines():

@@ -23,9 +23,11 @@ COMMANDS = {
     "parts": Command("commands.parts", "audits a trace that is too large for one process"),
     "window": Command("commands.window", "audits a log stretch by stretch, each behind what the one before left"),
     "day": Command("commands.day", "imports, audits and reports a day's logs behind those of the days before"),
+    "forget": Command("commands.forget", "takes away what old days keep of users and of what they asked"),
     "report": Command("commands.report", "says which findings of an audit mattered, as a page, a text or rows"),
     "explain": Command("commands.explain", "says why an entry is allowed or denied, or why a trace is refused"),
     "draw": Command("commands.draw", "draws what the rules say of a goal, and what the service said"),
+    "join": Command("commands.join", "joins the logs of several recorders of one service into one"),
     "record": Command("recording.command", "records what a service decides, as a proxy in front of it"),
 }
 

@@ -25,6 +25,7 @@ from new_enemy_tools.parting.reports import read_part_report
 from new_enemy_tools.parting.running import run_all, run_parts
 from new_enemy_tools.pieces import PiecesReader, pieces_of
 from new_enemy_tools.progress import Progress
+from new_enemy_tools.shown import tell as tell_line
 
 
 def given_of(words: list[str]) -> Namespace:
@@ -137,8 +138,8 @@ def main(words: list[str]) -> int:
             return run_command(given.program, given.folder, given.jobs, given.make)
         return merge_command(given.reports)
     except PartsFault as fault:
-        sys.stderr.write("parts: %s\n" % fault)
+        tell_line("parts: %s" % fault, sys.stderr)
         return 2
     except OSError as fault:
-        sys.stderr.write("parts: %s\n" % ": ".join(str(said) for said in (fault.filename, fault.strerror) if said))
+        tell_line("parts: %s" % ": ".join(str(said) for said in (fault.filename, fault.strerror) if said), sys.stderr)
         return 5

@@ -27,9 +27,11 @@ from new_enemy_tools.ignoring import read_rows
 from new_enemy_tools.looked import looked_in
 from new_enemy_tools.names import Names
 from new_enemy_tools.progress import Progress
-from new_enemy_tools.quick import OtherForm
+from new_enemy_tools.trace_lines import OtherForm
+from new_enemy_tools.shown import tell
 from new_enemy_tools.telling import LeftOut, Telling, telling_of, told_of, warnings_of
 from new_enemy_tools.trace import Trace
+from new_enemy_tools.windowing.keeping import kept_day
 
 
 
@@ -43,8 +45,8 @@ def parser_of_words() -> Parser:
     parser.add_argument("--fail-on", choices=EFFECTS, metavar="EFFECT", help="status 1 where a finding that is told has this "
                         "effect or a worse one: %s" % ", ".join(EFFECTS))
     add_allowing(parser)
-    parser.add_argument("trace", metavar="TRACE", help="the trace, or joined input")
-    parser.add_argument("report", metavar="REPORT", help="what the audit wrote, or the report of a part")
+    parser.add_argument("trace", metavar="TRACE", help="the trace, joined input, or the folder of a day of ne day")
+    parser.add_argument("report", metavar="REPORT", nargs="?", help="what the audit wrote, or the report of a part; a day's folder has it")
     return parser
 
 
@@ -85,10 +87,13 @@ class Teller:
 
     def __init__(self, given: argparse.Namespace, progress: Progress):
         self.given, self.progress = given, progress
-        self.data = split_joined(read_joined(given.trace))[0]
+        self.day = kept_day(given.trace)
+        self.data = b"" if self.day is not None else split_joined(read_joined(given.trace))[0]
         self.report: Optional[str] = None
 
     def told(self) -> Told:
+        if self.day is not None:
+            return self._told(self.day.trace())
         if self.given.form != "html":
             try:
                 return self._told(read_audited(self.data))
@@ -101,11 +106,17 @@ class Teller:
         given = self.given
         ids = read_ids(given.ids, trace)
         out = left_out(given.ignore, given.baseline, ids is not None)
-        if self.report is None:
-            self.report = report_text(given.report)
-        report = read_report(self.report)
-        told = told_of(trace, report, self.progress.steps("looked at %s findings"))
-        telling = telling_of(told, trace, Names(ids), given.trace, report, looked_in(self.data), coverage_in(self.data), out)
+        step = self.progress.steps("looked at %s findings")
+        if self.day is not None:
+            report, coverage, looked = self.day.told()
+            # The trace has content checks of the days before too.
+            told = told_of(trace, report._replace(entries=len(trace.entries)), step)
+        else:
+            if self.report is None:
+                self.report = report_text(given.report)
+            report, coverage, looked = read_report(self.report), coverage_in(self.data), looked_in(self.data)
+            told = told_of(trace, report, step)
+        telling = telling_of(told, trace, Names(ids), given.trace, report, looked, coverage, out)
         return Told(telling, warnings_of(telling, out), [] if given.form == "html" else list(form_of(given.form)(telling)))
 
 
@@ -143,14 +154,16 @@ def write_html(parser: Parser, telling: Telling, out: Optional[str], progress: P
 def main(words: list[str]) -> int:
     parser = parser_of_words()
     given = parser.parse_args(words)
+    if (given.report is None) != (kept_day(given.trace) is not None):
+        parser.error("REPORT is missing" if given.report is None else "the folder of a day has its report: leave out REPORT")
     with Progress() as progress:
         told = told_quickly(given, progress)
         progress.end()
         for line in told.warnings:
-            sys.stderr.write(line + "\n")
+            tell(line, sys.stderr)
         if given.form == "html":
             write_html(parser, told.telling, given.out, progress)
         else:
             write(told.lines, given.out)
-    worst = told.telling.told[0].effect.rank if told.telling.told else len(EFFECTS)
+    worst = min((one.effect.rank for one in told.telling.told), default=len(EFFECTS))
     return 1 if given.fail_on is not None and worst <= EFFECTS.index(given.fail_on) else told.telling.status(given.allow_unaudited)

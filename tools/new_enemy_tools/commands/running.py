@@ -6,7 +6,7 @@ import traceback
 from typing import Any, Callable, NoReturn, TextIO
 
 from new_enemy_tools.faults import ToolFault
-from new_enemy_tools.shown import plain
+from new_enemy_tools.shown import plain, secretless, tell, tell_all
 
 # A fault of the tool itself, which a traceback tells.
 BROKEN = 7
@@ -21,7 +21,7 @@ class Parser(argparse.ArgumentParser):
 
     def error(self, message: str) -> NoReturn:
         self.print_usage(sys.stderr)
-        self.exit(3, "%s: %s\n" % (self.prog, message))
+        self.exit(3, "%s: %s\n" % (self.prog, secretless(plain(message))))
 
 
 def percent(text: str) -> float:
@@ -42,7 +42,9 @@ def add_allowing(parser: argparse.ArgumentParser) -> None:
 
 def say(fault: ToolFault, stream: TextIO) -> None:
     """The fault's line, and what else is to be said of it."""
-    stream.write("%s\n%s" % (plain(str(fault)), "".join("  %s\n" % plain(detail) for detail in fault.details)))
+    tell(str(fault), stream)
+    for detail in fault.details:
+        tell("  " + detail, stream)
 
 
 def ended(main: Callable[[list[str]], int], words: list[str]) -> int:
@@ -62,11 +64,11 @@ def run(main: Callable[[], int]) -> NoReturn:
             sys.stdout.flush()
     except OSError as fault:
         if not isinstance(fault, BrokenPipeError):
-            sys.stderr.write("cannot %s: %s\n" % ("use %s" % fault.filename if fault.filename else "write", fault.strerror))
+            tell("cannot %s: %s" % ("use %s" % fault.filename if fault.filename else "write", fault.strerror), sys.stderr)
         status = 5
     except Exception:
         # Python would end with the status of a finding.
-        traceback.print_exc()
+        tell_all(traceback.format_exc(), sys.stderr)
         status = BROKEN
     sys.stderr.flush()
     # All is written, and to free what was read would take a tenth of the time.

@@ -22,7 +22,7 @@ from new_enemy_tools.commands.running import Parser, add_allowing
 from new_enemy_tools.parting.faults import PartsFault
 from new_enemy_tools.parting.manifest import MOST_PARTS
 from new_enemy_tools.progress import Progress
-from new_enemy_tools.shown import plain
+from new_enemy_tools.shown import plain, tell
 from new_enemy_tools.windowing.auditing import How
 from new_enemy_tools.windowing.carrying import Keep, carried
 from new_enemy_tools.windowing.faults import WindowFault
@@ -104,7 +104,7 @@ def places(found: Audited, own: Own) -> dict[int, str]:
     lines = {one.line for one in found.told.findings} | {*found.told.not_audited, *found.told.in_part}
     raws = lines_of(own, found.window.old, lines)
     said = {line: strictjson.object_of(raw).get("from") for line, raw in raws.items()}
-    return {line: " (%s)" % source if isinstance(source, str) else "" for line, source in said.items()}
+    return {line: " (%s)" % plain(source) if isinstance(source, str) else "" for line, source in said.items()}
 
 
 def state_command(given: Namespace, progress: Progress) -> int:
@@ -145,10 +145,10 @@ def main(words: list[str]) -> int:
         sys.stderr.write(fault.answer.error)
         return fault.answer.status
     except (WindowFault, PartsFault) as fault:
-        sys.stderr.write(plain("window: %s" % fault) + "\n")
+        tell("window: %s" % fault, sys.stderr)
         return 2
     except OSError as fault:
-        sys.stderr.write("window: %s\n" % ": ".join(str(said) for said in (fault.filename, fault.strerror) if said))
+        tell("window: %s" % ": ".join(str(said) for said in (fault.filename, fault.strerror) if said), sys.stderr)
         return 5
     finally:
         gc.enable()

@@ -7,16 +7,20 @@ from new_enemy_tools.importing.refusals import Refusals
 from new_enemy_tools.importing.spool import Facts, Lines
 
 # What matters to lines that stand before the one that has it.
-LATE = ("is_sequenced", "has_newest", "has_between", "has_groups", "has_every", "has_asked", "has_calls")
+LATE = ("has_newest", "has_between", "has_groups", "has_every", "has_asked", "has_calls")
 
 
 class Ahead:
-    """What is refused meanwhile is kept apart, since it is told behind what is refused of the reading."""
+    """What is refused meanwhile is kept apart, since it is told behind what is refused of the `reading`."""
 
-    def __init__(self, lines: Lines, refusals: Refusals):
-        self.lines, self.refusals = lines, refusals
+    def __init__(self, lines: Lines, refusals: Refusals, reading: Refusals):
+        self.lines, self.refusals, self.reading = lines, refusals, reading
         self._rules = len(lines.rules)
         self._is_over = False
+
+    def may_begin(self) -> bool:
+        """Whether lines that were read so far are plain."""
+        return bool(self.lines.facts.count) and self._is_plain(self.lines.facts)
 
     def stream(self, more: Iterator[object]) -> Iterator[Union[Checks, Event, tuple[Any, ...]]]:
         """The lines, as they are read, up to one with which this ends."""
@@ -31,5 +35,8 @@ class Ahead:
         return not self._is_over and lines is self.lines and self._is_plain(lines.facts)
 
     def _is_plain(self, facts: Facts) -> bool:
-        """By the lines so far: of one file and one day, without a sequence, and without rules that change."""
-        return not any(getattr(facts, name) for name in LATE) and facts.last_base < 0 and len(facts.files) < 2 and len(self.lines.rules) == self._rules
+        """By the lines so far: of one file and one day, in their order, without rules that change, and with all versions that they name."""
+        is_known = self.reading.gap_since is None and not self.reading.versions and not self.reading.has_lost_version
+        is_known &= not facts.is_sequenced or facts.is_rising
+        return is_known and not any(getattr(facts, name) for name in LATE) and facts.last_base < 0 and len(facts.files) < 2 and (
+            len(self.lines.rules) == self._rules)

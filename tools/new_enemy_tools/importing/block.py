@@ -2,21 +2,24 @@
 import marshal
 import re
 from array import array
-from typing import Callable, Iterable, Iterator, Mapping, NamedTuple, Optional, Union
+from typing import Any, Callable, Iterable, Iterator, Mapping, NamedTuple, Optional, Union
 
 from new_enemy_tools.importing.checks import NAMES, NEWEST, Checks, Look, Other, Row
-from new_enemy_tools.importing.events import EVERY, Event, Line
+from new_enemy_tools.importing.events import Event, Line
 from new_enemy_tools.importing.located import BLANK, Block
-from new_enemy_tools.importing.shapes import Form, Said, Shape, shape_of
+from new_enemy_tools.importing.printed import time_of as time_of_epoch
+from new_enemy_tools.importing.shapes import QUOTE, Form, Said, Shape, Shapes, shape_of
 from new_enemy_tools.importing.spool import Facts, Read, row_of
 from new_enemy_tools.importing.times import nanoseconds
 
 # So many shapes are known at most, and so many lines are looked at for one.
-MOST = 24
+MOST = 64
 TRIES = 200
 DAY = len("2024-05-06")
 
 Full = Callable[[int, bytes], list[Line]]
+# The type, the relation, and the user's type and relation of a tuple.
+Names = tuple[str, str, str, Optional[str]]
 # The numbers of users by their types and ids, None for one that is not known; nothing where none is.
 Known = Callable[[list[tuple[str, str]]], list[Optional[int]]]
 
@@ -34,17 +37,19 @@ LEARNT = ("check", "content", "write")
 
 
 class Usual(NamedTuple):
-    """What a log has by the thousand: the forms of its checks, content checks and writes of one tuple, and what the values of a line mean.
+    """What a log has by the thousand: the forms of its checks, content checks and writes, and what the values of a line mean.
 
     A write is taken where its relation takes its user, by type, relation, and the user's type and relation.
     """
 
-    check: Form
-    content: Form
-    write: Form
+    check: tuple[Form, ...]
+    content: tuple[Form, ...]
+    write: tuple[Form, ...]
     look_of: Callable[[Said], Optional[Look]]
     when_of: Callable[[Said], Optional[When]]
     takes: Callable[[str, str, str, Optional[str]], bool]
+    # what stands for the relation of a user that has one
+    relation_of: Callable[[Optional[bytes]], Optional[str]] = lambda given: given and given.decode() or None
 
 
 class Columns:
@@ -61,6 +66,9 @@ class Columns:
         self.objects: list[bytes] = []
         self.lines: list[int] = []
         self.times: list[bytes] = []
+        self.sequences: list[int] = []
+        # whether all lines that were read by their shapes have a sequence
+        self.has_all = True
         self.others: list[Other] = []
         # the first line that was read by its shape
         self.first = 0
@@ -84,6 +92,17 @@ class Columns:
         self.times += [b""] * (len(self.lines) - len(self.times))
         self.times.append(time)
 
+    def note_line(self, shape: Shape, found: re.Match[bytes], is_check: bool) -> None:
+        """Notes the sequence of the line that is next."""
+        if not shape.sequence:
+            self.has_all = False
+            return
+        sequence = int(found[shape.sequence])
+        self.facts.note_sequence((sequence, 0))
+        if is_check:
+            self.sequences += [-1] * (len(self.lines) - len(self.sequences))
+            self.sequences.append(sequence)
+
     def add(self, line: Line) -> None:
         """A line that was read in full."""
         self._note()
@@ -105,13 +124,14 @@ class Columns:
         self.facts.count = len(self.lines) + self.rows
         first = self.first or (self.lines[0] if self.lines else 0)
         if first:
-            self.facts.note_checks(self.path, first)
+            self.facts.note_checks(self.path, first, self.has_all)
 
     def checks(self) -> Checks:
         times, users = self.times and self.times + [b""] * (len(self.lines) - len(self.times)), _texts(self.users)
         return Checks(self.path, _texts(self.pairs), users, self.known(users), self.looks, array("I", self.pair_of).tobytes(),
                       array("I", self.user_of).tobytes(), array("I", self.look_of).tobytes(), b"\n".join(self.objects).decode(),
-                      array("Q", self.lines).tobytes(), b"\n".join(times).decode(), self.others)
+                      array("Q", self.lines).tobytes(), b"\n".join(times).decode(), self.others,
+                      array("q", self.sequences + [-1] * (len(self.lines) - len(self.sequences))).tobytes() if self.sequences else b"")
 
     def read(self) -> Read:
         self._note()
@@ -127,11 +147,11 @@ class Reader:
 
     def __init__(self, path: str, usual: Usual, known: Known = lambda users: []):
         self.path, self.usual, self.known = path, usual, known
-        self.shapes: list[Shape] = []
+        self.shapes = Shapes()
         self.tried = 0
         self.days: dict[bytes, bool] = {}
-        # of writes, by the bytes of their names, these names where such tuples may be written
-        self.taken: dict[Row, Optional[tuple[str, str, str]]] = {}
+        # by the bytes of their names, these names where such tuples may be written
+        self.taken: dict[tuple[Any, ...], Optional[Names]] = {}
 
     def pieces(self, block: Block, full: Full) -> Iterator[Union[Read, Event]]:
         """The lines of a block, with rules apart, which have no row."""
@@ -145,8 +165,8 @@ class Reader:
                     break
                 for one in given:
                     columns.add(one)
-                if len(given) == 1 and given[0].kind in LEARNT and len(self.shapes) < MOST and self.tried < TRIES:
-                    self._learn(number, line, row_of(given[0]))
+                if given and len(self.shapes.listed) < MOST and self.tried < TRIES:
+                    self._learn(number, line, [row_of(one) for one in given])
             else:
                 yield columns.read()
                 return
@@ -156,17 +176,17 @@ class Reader:
 
     def _odd(self, lines: Iterable[tuple[int, bytes]], columns: Columns) -> Iterator[tuple[int, bytes]]:
         """Takes the lines of usual shapes, and gives the others."""
-        shapes, pairs, users = self.shapes, columns.pairs, columns.users
+        by_quotes, others, pairs, users = self.shapes.by_quotes, self.shapes.others, columns.pairs, columns.users
         put_pair, put_user, put_look = columns.pair_of.append, columns.user_of.append, columns.look_of.append
         put_object, put_line, look_of = columns.objects.append, columns.lines.append, self.usual.look_of
-        shapes.sort(key=lambda shape: -shape.hits)
-        for shape in shapes:
+        self.shapes.sort()
+        for shape in self.shapes.listed:
             shape.looks.clear()
         for number, raw in lines:
             line = raw.strip(BLANK)
             if not line:
                 continue
-            for shape in shapes:
+            for shape in by_quotes.get(line.count(QUOTE), others):
                 found = shape.match(line)
                 if found:
                     break
@@ -174,15 +194,15 @@ class Reader:
                 yield number, line
                 continue
             shape.hits += 1
-            if shape.time and not self._is_day(found[shape.time]):
-                yield number, line
-                continue
-            if shape.kind != "check":
-                row = self._write(number, shape, found) if shape.kind == "write" else self._content(number, shape, found)
-                if row is None:
+            time = b""
+            if shape.time:
+                time = self._time_of(shape, found)
+                if not time:
                     yield number, line
-                else:
-                    columns.add_usual(row)
+                    continue
+            if shape.kind != "check":
+                if not self._take_rows(columns, number, shape, found, time):
+                    yield number, line
                 continue
             said = found.group(*shape.rest)
             look = shape.looks.get(said)
@@ -191,8 +211,10 @@ class Reader:
             if look < 0:
                 yield number, line
                 continue
-            if shape.time:
-                columns.add_time(found[shape.time])
+            if time:
+                columns.add_time(time)
+            if shape.sequence or columns.has_all:
+                columns.note_line(shape, found, True)
             of, thing, relation, user_type, user_id = found.group(*shape.goal)
             pair = pairs.get((of, relation))
             put_pair(columns.add_names(of, relation) if pair is None else pair)
@@ -201,54 +223,80 @@ class Reader:
             put_object(thing)
             put_line(number)
 
-    def _content(self, number: int, shape: Shape, found: re.Match[bytes]) -> Optional[Row]:
-        """The row of a content check; None where it has to be read in full."""
+    def _take_rows(self, columns: Columns, number: int, shape: Shape, found: re.Match[bytes], time: bytes) -> bool:
+        """Takes a line that is no check; False where it has to be read in full."""
+        rows = self._writes(number, shape, found, time) if shape.kind == "write" else self._content(number, shape, found, time)
+        if rows:
+            columns.note_line(shape, found, False)
+            for row in rows:
+                columns.add_usual(row)
+        return bool(rows)
+
+    def _content(self, number: int, shape: Shape, found: re.Match[bytes], time: bytes) -> list[Row]:
+        """The row of a content check; nothing where it has to be read in full."""
         look = self.usual.look_of(shape.said(found))
         if look is None:
-            return None
+            return []
         reply, snapshot, shown, token, version, asked = look
         token = None if token == NEWEST else token
         goal = (*(text.decode() for text in found.group(*shape.goal)), None)
-        return ("content", self.path, number, goal, reply, snapshot, shown, token, version, None, False, asked, None,
-                nanoseconds(found[shape.time].decode()) if shape.time else None, self.path, None, None)
+        return [("content", self.path, number, goal, reply, snapshot, shown, token, version, None, False, asked, sequence_in(shape, found),
+                 nanoseconds(time.decode()) if time else None, self.path, None, None)]
 
-    def _write(self, number: int, shape: Shape, found: re.Match[bytes]) -> Optional[Row]:
-        """The row of a write; None where it has to be read in full."""
-        of, thing, relation, user_type, user_id = found.group(*shape.goal)
-        key = of, relation, user_type, shape.user_relation
-        if key not in self.taken:
-            self.taken[key] = self._names(of, relation, user_type, shape.user_relation)
-        names, when = self.taken[key], self.usual.when_of(shape.said(found))
-        if when is None or names is None:
-            return None
-        time = nanoseconds(found[shape.time].decode()) if shape.time else when.time
-        given = [(names[0], thing.decode(), names[1], names[2], user_id.decode(), shape.user_relation)]
-        return ("write", self.path, number, when.revision, when.shown, False, None, None, time, self.path,
-                given if shape.adds else [], [] if shape.adds else given, None)
+    def _writes(self, number: int, shape: Shape, found: re.Match[bytes], time: bytes) -> list[Row]:
+        """The rows of writes; nothing where they have to be read in full."""
+        said, rows = shape.said(found), list[Row]()
+        for item, (is_first, is_added) in zip(shape.items, shape.sides):
+            of, thing, relation, user_type, user_id = found.group(*item.goal)
+            key = of, relation, user_type, found[item.user_relation] if item.user_relation else None
+            if key not in self.taken:
+                self.taken[key] = self._names(*key)
+            names = self.taken[key]
+            if names is None:
+                return []
+            if is_first:
+                when = self.usual.when_of({**said, **item.said(found)})
+                if when is None:
+                    return []
+                at = nanoseconds(time.decode()) if time else when.time
+                rows.append(("write", self.path, number, when.revision, when.shown, False, None, sequence_in(shape, found), at, self.path,
+                             [], [], None))
+            rows[-1][10 if is_added else 11].append((names[0], thing.decode(), names[1], names[2], user_id.decode(), names[3]))
+        return rows
 
-    def _names(self, of: bytes, relation: bytes, user_type: bytes, user_relation: Optional[str]) -> Optional[tuple[str, str, str]]:
+    def _names(self, of: bytes, relation: bytes, user_type: bytes, user_relation: Optional[bytes]) -> Optional[Names]:
         """The names of tuples that may be written so."""
-        names = of.decode(), relation.decode(), user_type.decode()
-        return names if self.usual.takes(*names, user_relation) else None
+        names = of.decode(), relation.decode(), user_type.decode(), self.usual.relation_of(user_relation)
+        return names if self.usual.takes(*names) else None
 
-    def _learn(self, number: int, line: bytes, row: Row) -> None:
+    def _learn(self, number: int, line: bytes, rows: list[Row]) -> None:
         """Learns the shape of a line, where it gives what the line was read as."""
-        given = row[10] + row[11] if row[0] == "write" else None
-        shape = None
-        if given is None or len(given) == 1 and given[0][5] != EVERY:
-            shape = shape_of(line, getattr(self.usual, row[0]))
-        # a check says its snapshot and its reply
-        if shape and (row[0] != "check" or len(shape.rest) > 1):
-            shape.kind = row[0]
-            if given:
-                shape.adds, shape.user_relation = bool(row[10]), given[0][5]
-            known, self.shapes = self.shapes, [shape]
-            columns = Columns(self.path, self.known)
-            if not list(self._odd([(number, line)], columns)) and list(columns.checks().rows()) == [row]:
-                known.append(shape)
-            shape.looks.clear()
-            self.shapes = known
+        kind = rows[0][0]
+        if kind not in LEARNT or len(rows) > 1 and {row[0] for row in rows} != {"write"}:
+            return
         self.tried += 1
+        shape = next(filter(None, (shape_of(line, form) for form in getattr(self.usual, kind))), None)
+        # a check says its snapshot and its reply
+        if shape is None or kind == "check" and len(shape.rest) < 2:
+            return
+        shape.kind = kind
+        if kind == "write":
+            found = shape.match(line)
+            shape.sides = [] if found is None else sides_of(shape, found, rows)
+        known, self.shapes = self.shapes, Shapes(shape)
+        columns = Columns(self.path, self.known)
+        is_right = not list(self._odd([(number, line)], columns)) and list(columns.checks().rows()) == rows
+        shape.looks.clear()
+        self.shapes = known
+        if is_right:
+            known.add(shape)
+
+    def _time_of(self, shape: Shape, found: re.Match[bytes]) -> bytes:
+        """The time of a line; nothing where the line has to be read in full."""
+        time: Optional[bytes] = found[shape.time]
+        if time is None:
+            return (time_of_epoch(float(found[shape.epoch])) or "").encode()
+        return time if self._is_day(time) else b""
 
     def _is_day(self, time: bytes) -> bool:
         """Whether a time has a day that there is."""
@@ -256,3 +304,27 @@ class Reader:
         if known is None:
             known = self.days[time[:DAY]] = nanoseconds(time.decode()) is not None
         return known
+
+
+def sequence_in(shape: Shape, found: re.Match[bytes]) -> Optional[tuple[int, int]]:
+    return (int(found[shape.sequence]), 0) if shape.sequence else None
+
+
+def sides_of(shape: Shape, found: re.Match[bytes], rows: list[Row]) -> list[tuple[bool, bool]]:
+    """Of each tuple of a line whether it is the first of the writes that were read of it, and whether it is added; nothing where that is
+    not certain, as where one is both added and removed."""
+    sides: list[tuple[bool, bool]] = []
+    left = [[list(row[10]), list(row[11])] for row in rows]
+    is_first = True
+    for item in shape.items:
+        goal = tuple(text.decode() for text in found.group(*item.goal))
+        nexts = [bool(side) and side[0][:5] == goal for side in left[0]] if left else []
+        if nexts.count(True) != 1:
+            return []
+        side = nexts.index(True)
+        left[0][side].pop(0)
+        sides.append((is_first, side == 0))
+        is_first = not any(left[0])
+        if is_first:
+            left.pop(0)
+    return [] if left else sides

@@ -1,8 +1,9 @@
 """The files of tools/record: each begins with the hash of the one before, and ends with its count of lines and its own hash."""
 import hashlib
 import json
-from typing import Any, BinaryIO, NamedTuple, Optional
+from typing import Any, NamedTuple, Optional
 
+from new_enemy_tools.importing.opened import opened
 from new_enemy_tools.importing.refusals import Refusals
 
 BLOCK = 1 << 20
@@ -34,35 +35,24 @@ def _line(raw: bytes, kind: str) -> Optional[dict[str, Any]]:
 
 def head_of(path: str) -> Optional[Head]:
     """The head of a file; None where the file is none of a chain."""
-    with open(path, "rb") as file:
+    with opened(path) as file:
         value = _line(file.readline(LONGEST), "log") if file.seekable() else None
     if value is None or not isinstance(value.get("number"), int) or not isinstance(value.get("before"), (str, type(None))):
         return None
     return Head(value["number"], value.get("before"))
 
 
-def _last_start(file: BinaryIO) -> int:
-    """Where the last line begins."""
-    size = file.seek(0, 2)
-    start = max(0, size - LONGEST)
-    file.seek(start)
-    return start + file.read().rstrip(b"\n").rfind(b"\n") + 1
-
-
 def end_of(path: str) -> End:
-    with open(path, "rb") as file:
-        last = _last_start(file)
-        file.seek(last)
-        closed = _line(file.read(), "closed")
-        file.seek(0)
-        made, count, left = hashlib.sha256(), 0, last
-        while left > 0:
-            data = file.read(min(BLOCK, left))
-            if not data:
-                break
-            made.update(data)
-            count += data.count(b"\n")
-            left -= len(data)
+    made, count, last = hashlib.sha256(), 0, b""
+    with opened(path) as file:
+        while data := file.read(BLOCK):
+            last += data
+            # The last line is not among those before it, and may still come in part.
+            start = last.rstrip(b"\n").rfind(b"\n") + 1
+            made.update(last[:start])
+            count += last.count(b"\n", 0, start)
+            last = last[start:]
+    closed = _line(last, "closed")
     return End(count, made.hexdigest(), None if closed is None else (closed.get("count"), closed.get("sha256")))
 
 
@@ -112,7 +102,7 @@ def _refuse_unlinked(path: str, head: Head, before: Optional[tuple[str, int, Opt
 
 def is_closed_within(path: str) -> bool:
     """Whether some line of a file says that it closes it."""
-    with open(path, "rb") as file:
+    with opened(path) as file:
         return any(b'"closed"' in raw and _line(raw, "closed") is not None for raw in file)
 
 

@@ -5,7 +5,7 @@ once: their types and relations, their users, and what they looked at.
 """
 from array import array
 from itertools import repeat
-from typing import Any, Iterator, NamedTuple, Optional
+from typing import Any, Iterable, Iterator, NamedTuple, Optional
 
 from new_enemy_tools.importing.times import nanoseconds
 
@@ -30,7 +30,8 @@ class Look(NamedTuple):
 
 
 class Checks(NamedTuple):
-    """The columns have an item for each check: its pair, user and look by their places, its object, its line, and its time, if any has one.
+    """The columns have an item for each check: its pair, user and look by their places, its object, its line, and its time and its sequence, if
+    any has one, where -1 stands for none.
 
     `numbers` are those of users that the table of ids has, None for others, or nothing where that is not known. `others` are rows, each with the number of checks before it, and of the users that these have.
     """
@@ -47,6 +48,7 @@ class Checks(NamedTuple):
     lines: bytes
     times: str
     others: list[Other]
+    sequences: bytes = b""
 
     @property
     def size(self) -> int:
@@ -60,12 +62,13 @@ class Checks(NamedTuple):
     def entries(self) -> Iterator[Row]:
         """The checks as rows, each with the fields of an Entry."""
         times = self.times.split("\n") if self.times else repeat("")
-        for pair, thing, user, look, line, time in zip(column(self.pair_of), self.objects.split("\n"), column(self.user_of),
-                                                       column(self.look_of), column(self.lines, "Q"), times):
+        sequences: Iterable[int] = column(self.sequences, "q") if self.sequences else repeat(-1)
+        for pair, thing, user, look, line, time, sequence in zip(column(self.pair_of), self.objects.split("\n"), column(self.user_of),
+                                                                 column(self.look_of), column(self.lines, "Q"), times, sequences):
             of, relation = self.pairs[pair]
             reply, snapshot, shown, token, version, asked = self.looks[look]
             yield ("check", self.file, line, (of, thing, relation, *self.users[user], None), reply, snapshot, shown, token, version,
-                   None, False, asked, None, nanoseconds(time) if time else None, self.file, None, None)
+                   None, False, asked, None if sequence < 0 else (sequence, 0), nanoseconds(time) if time else None, self.file, None, None)
 
     def rows(self) -> Iterator[Row]:
         """All lines as rows, in order."""

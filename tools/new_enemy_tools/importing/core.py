@@ -31,6 +31,7 @@ from new_enemy_tools.importing.writing import Counts, Piece, Written
 from new_enemy_tools.parting.sharing import shared
 from new_enemy_tools.progress import Progress
 from new_enemy_tools.texts import Tuple, Userset, parse_tuple
+from new_enemy_tools.trace_lines import with_mark
 from new_enemy_tools.windowing.state import State
 
 CIRCULAR = "tuple through which a relation takes away what it rests on"
@@ -145,10 +146,15 @@ class Core:
         return commit
 
     def _taken_ahead(self, given: Given) -> Optional[Ahead]:
-        """Where a day's log has nothing that hangs on all of its lines, they are taken while others are still read; None where it has."""
-        if self._before is None or self.skew is not None:
+        """Where a log has nothing that hangs on all of its lines, they are taken while others are still read; None where it has."""
+        if self.skew is not None:
             return None
-        ahead = Ahead(given.lines, Refusals(self.refusals.skip))
+        if self._before is None:
+            # Rules stand before all else.
+            next(given.more, None)
+        ahead = Ahead(given.lines, Refusals(self.refusals.skip), self.refusals)
+        if self._before is None and (self.goes_on is not None or not ahead.may_begin()):
+            return None
         self._begin(given.lines, Wildcards(given.lines), given.base, ahead.refusals)
         self.taken.take_all(ahead.stream(given.more), Spans(()))
         return ahead
@@ -203,8 +209,9 @@ class Core:
     def _stream(self, lines: Lines) -> Iterable[Union[Checks, Event, tuple[Any, ...]]]:
         """Everything behind the base state, in order. Entries are rows, or what has a row's fields, or many together."""
         facts = lines.facts
-        if self.skew is None and not facts.is_sequenced and not facts.has_newest:
-            if facts.last_base < 0 and len(facts.files) < 2:
+        is_in_order = facts.is_sequenced and facts.is_rising and facts.last_base < 0
+        if self.skew is None and (is_in_order or not facts.is_sequenced) and not facts.has_newest:
+            if facts.last_base < 0 and (is_in_order or len(facts.files) < 2):
                 return lines.stream()
             return in_order(self._behind_base(lines.stream(facts.last_base), facts), facts, self.skew, self.refusals)
         stream = in_order(self._behind_base(lines, facts), facts, self.skew, self.refusals)
@@ -285,7 +292,7 @@ class Core:
                 self.progress.step("wrote %s events", self.counts.count)
                 if first and piece.lines:
                     line, _, rest = piece.lines.partition(b"\n")
-                    piece, first = Piece(b"%s,%s}\n%s" % (line[:-1], first.encode(), rest)), ""
+                    piece, first = Piece(b"%s\n%s" % (with_mark(line, first), rest)), ""
                 yield piece
             return
         self.taken.states.take_rules(shown.declarations(self.declared))
@@ -308,11 +315,11 @@ class Core:
         made, ats, at = shown.checks(checks), shown.snapshots(checks), 0
         counts.has_token |= any(look[3] is not None for look in checks.looks)
         counts.has_named |= any(look[4] is not None for look in checks.looks)
+        counts.take_times(checks.times)
         texts: list[str] = []
         snapshots: list[int] = []
         for place, _, row in (*checks.others, (len(made), 0, None)):
             counts.checks += place - at
-            counts.take_times(checks.times)
             texts += made[at:place]
             snapshots += ats[at:place]
             at = place

@@ -17,13 +17,14 @@ EVERY = "*"
 STAMP = frozenset(("sequence", "time", "clock"))
 EVERY_EVENT = STAMP | {"event", "file", "line"}
 ENTRY = EVERY_EVENT | {"goal", "snapshot", "snapshot_between", "newest_between", "reply", "token", "version"}
-KEYS = {"rules": EVERY_EVENT | {"revision", "namespaces"}, "write": EVERY_EVENT | {"revision", "base", "add", "remove"},
+KEYS = {"rules": EVERY_EVENT | {"revision", "model", "namespaces", "came"},
+        "write": EVERY_EVENT | {"revision", "base", "add", "remove", "came"},
         "check": ENTRY | {"newest"}, "content": ENTRY | {"newest"},
         "gap": EVERY_EVENT | {"from", "to", "reason", "lost"}, "unmapped": EVERY_EVENT | {"reason", "detail", "userset", "version"},
-        "log": EVERY_EVENT | {"number", "before", "service", "cursor", "revision", "rules_sha256", "behind", "apart"},
+        "feed": EVERY_EVENT | {"store", "changes"}, "read": EVERY_EVENT | {"until"}, "log": EVERY_EVENT | {"number", "before", "service", "cursor", "revision", "rules_sha256", "behind", "apart"},
         "place": EVERY_EVENT | {"cursor", "revision", "rules_sha256", "behind", "apart"}, "closed": EVERY_EVENT | {"count", "sha256"}}
 # Lines of a recorder for itself and for the chain of its files.
-RECORDER = frozenset(("log", "place", "closed"))
+RECORDER = frozenset(("log", "feed", "read", "place", "closed"))
 NAMESPACE, RELATION = frozenset(("name", "relations")), frozenset(("name", "rewrite"))
 SLOTS = {"slots": True} if sys.version_info >= (3, 10) else {}
 

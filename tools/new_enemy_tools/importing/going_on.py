@@ -6,7 +6,7 @@ The file is a line of JSON, and behind it the checksum of that line.
 import json
 from hashlib import blake2b
 from itertools import starmap
-from typing import Any, Iterable, Iterator, NamedTuple, Optional, Sequence, Union
+from typing import Any, Callable, Iterable, Iterator, NamedTuple, Optional, Sequence, Union
 
 from new_enemy_tools import limits
 from new_enemy_tools.edges import Edge, Name
@@ -96,11 +96,11 @@ def write_left(path: str, left: Left) -> None:
     write_whole(path, [line, "sum " + blake2b(line.encode(), digest_size=32).hexdigest()])
 
 
-def cut(left: Left, least: Optional[int], days: Optional[int]) -> Left:
-    """Without versions that were issued before the last days; and without revisions that stand below a timestamp, but for those that
-    versions were issued at, and the last below."""
+def cut(left: Left, least: Optional[int], days: Optional[int], carries: Callable[[list[str]], bool] = lambda key: False) -> Left:
+    """Without versions that were issued before the last days, but for those that the state carries all the same; and without revisions that stand
+    below a timestamp, but for those that versions were issued at, and the last below."""
     if days is not None:
-        left = left._replace(issued=[row for row in left.issued if row[4] > left.day - days])
+        left = left._replace(issued=[row for row in left.issued if row[4] > left.day - days or carries(row[0])])
     if least is None:
         return left
     kept = {row[3][2] for row in left.issued} | {left.base}

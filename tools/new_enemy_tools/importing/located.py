@@ -1,5 +1,7 @@
 """JSON of a service, with the line of each object and value, from JSON lines or from a text over many lines."""
+import errno
 import json
+import os
 import re
 import shutil
 import tempfile
@@ -10,6 +12,7 @@ from json.scanner import NUMBER_RE  # type: ignore[import]
 from typing import IO, Any, Iterator, NamedTuple, NoReturn
 
 from new_enemy_tools import limits
+from new_enemy_tools.importing.opened import Unpacked, opened
 from new_enemy_tools.importing.refusals import Refusals
 from new_enemy_tools.strictjson import has_half_pair, is_nested_too_deep
 
@@ -187,7 +190,7 @@ def _is_lines(data: bytes) -> bool:
     return 2 * sum(line[:1] == b"{" and line[-1:] == b"}" for line in filled) >= len(filled)
 
 
-def _line_value(raw: bytes) -> object:
+def line_value(raw: bytes) -> object:
     """The value of a line; raises ValueError."""
     if is_nested_too_deep(raw):
         raise ValueError("nested too deep")
@@ -227,24 +230,49 @@ class Block(NamedTuple):
     data: bytes
 
 
+class Place(NamedTuple):
+    """Where a block stands: the number of its first line, and from where on so many bytes."""
+
+    first: int
+    start: int
+    size: int
+
+
+def _unmarked(place: Place, data: bytes) -> bytes:
+    return data.removeprefix(MARK) if place.start == 0 else data
+
+
 class Source:
-    """A file that is read several times; what comes by a pipe is kept in a file meanwhile."""
+    """A file that is read several times; what comes by a pipe, and what a compressed file has, is kept in a file meanwhile."""
 
     def __init__(self, path: str):
         self.path = path
-        self.file: IO[bytes] = open(path, "rb")
-        if not self.file.seekable():
+        self.file: IO[bytes] = opened(path)
+        if not self.file.seekable() or isinstance(self.file, Unpacked):
             kept = tempfile.TemporaryFile()
             shutil.copyfileobj(self.file, kept)
             self.file = kept
 
     def blocks(self) -> Iterator[Block]:
-        first = 1
+        return (block for _, block in self.placed())
+
+    def placed(self) -> Iterator[tuple[Place, Block]]:
+        """Each block with its place."""
+        first, start = 1, 0
         self.file.seek(0)
         while data := self.file.read(BLOCK):
             data += self.file.readline()
-            yield Block(first, data.removeprefix(MARK) if first == 1 else data)
-            first += data.count(b"\n")
+            place = Place(first, start, len(data))
+            yield place, Block(first, _unmarked(place, data))
+            first, start = first + data.count(b"\n"), start + len(data)
+            self.file.seek(start)
+
+    def block(self, place: Place) -> Block:
+        """The block at a place, also for another process that has the file."""
+        data = os.pread(self.file.fileno(), place.size, place.start)
+        if len(data) < place.size:
+            raise OSError(errno.EIO, "the file was cut short while it was read", self.path)
+        return Block(place.first, _unmarked(place, data))
 
     def is_lines(self) -> bool:
         """Whether the file has a value on each line, by its first lines."""
@@ -274,7 +302,7 @@ def block_values(block: Block, path: str, refusals: Refusals) -> Iterator[tuple[
 def line_values(number: int, line: bytes, path: str, refusals: Refusals) -> Iterator[tuple[int, object]]:
     """The JSON value of one line, or none where it is refused."""
     try:
-        yield number, _line_value(line)
+        yield number, line_value(line)
     except ValueError as fault:
         refusals.refuse(path, number, "not JSON" if isinstance(fault, json.JSONDecodeError) else str(fault))
 

@@ -1,4 +1,5 @@
 """Logs of neutral events, by as many processes as there are."""
+from functools import partial
 from typing import Iterator, Union
 
 from new_enemy_tools.ids import Ids
@@ -7,23 +8,27 @@ from new_enemy_tools.importing.block import Reader, Usual, When
 from new_enemy_tools.importing.checks import Look
 from new_enemy_tools.importing.events import Event, Line, read_events
 from new_enemy_tools.importing.refusals import Refusals
-from new_enemy_tools.importing.shapes import GOAL, ID, LABEL, REPLY, TEXT, TIME, WHOLE, Field, Form, Said, field, form, needed
+from new_enemy_tools.importing.shapes import GOAL, ID, LABEL, REPLY, TEXT, TIME, USER_RELATION, WHOLE, Field, Form, Said, field, form, needed
 from new_enemy_tools.importing.spool import Lines, Read
 from new_enemy_tools.parting.sharing import shared
 
 # Rules have no row, and stay with the process that gathers.
 RULES = b'"rules"'
+
+
 def _goal(path: str, thing: bytes) -> dict[str, Field]:
     """The fields of a tuple that stands at a path."""
     patterns = (TEXT + b"+", thing, TEXT + b"+", TEXT + b"+", TEXT + b"+")
     return {"%s.%d" % (path, place): field(b'"(%s)"' % pattern, name) for place, (pattern, name) in enumerate(zip(patterns, GOAL))}
 
 
+STAMP = {"time": field(TIME, "time"), "sequence": field(WHOLE, "sequence")}
 CHECK = form({**_goal("goal", ID), "snapshot": field(WHOLE, "snapshot"), "reply": field(REPLY, "reply"), "token": field(WHOLE, "token"),
-              "version": field(LABEL, "version"), "time": field(TIME, "time")}, "event")
+              "version": field(LABEL, "version"), **STAMP}, "event")
 CONTENT = Form(CHECK.fields, CHECK.fixed | {("newest",)})
-WRITE = form({**_goal("add.0", TEXT + b"+"), **_goal("remove.0", TEXT + b"+"), "revision": field(WHOLE, "revision"),
-              "time": field(TIME, "time")}, "event", "base", "add.0.5", "remove.0.5")
+RELATION = field(b'"((?!\\*")%s+)"' % TEXT, USER_RELATION)
+WRITE = form({**_goal("add.*", TEXT + b"+"), "add.*.5": RELATION, **_goal("remove.*", TEXT + b"+"), "remove.*.5": RELATION,
+              "revision": field(WHOLE, "revision"), **STAMP}, "event", "base")
 
 
 def look_of(said: Said) -> Look:
@@ -36,7 +41,7 @@ def when_of(said: Said) -> When:
     return When(int(revision), revision.decode())
 
 
-USUAL = Usual(CHECK, CONTENT, WRITE, look_of, when_of, lambda *_: True)
+USUAL = Usual((CHECK,), (CONTENT,), (WRITE,), look_of, when_of, lambda *_: True)
 
 
 class Events:
@@ -46,14 +51,15 @@ class Events:
         self.path, self.refusals = path, refusals
         self.reader = Reader(path, USUAL, ids.kept_users)
 
-    def block(self, block: located.Block) -> Union[tuple[Read, Refusals], located.Block]:
+    def block(self, source: located.Source, place: located.Place) -> Union[tuple[Read, Refusals], located.Place]:
         """What a process makes of a block without rules."""
+        block = source.block(place)
         if RULES in block.data:
-            return block
+            return place
         refusals = Refusals(self.refusals.skip, self.refusals.is_chained)
-        read, = self.pieces(block, refusals)
-        assert isinstance(read, Read)
-        return read, refusals
+        read, *others = self.pieces(block, refusals)
+        # The word may be written in another way.
+        return place if others or not isinstance(read, Read) else (read, refusals)
 
     def pieces(self, block: located.Block, refusals: Refusals) -> Iterator[Union[Read, Event]]:
         def full(number: int, line: bytes) -> list[Line]:
@@ -70,9 +76,9 @@ def gather_events(path: str, lines: Lines, jobs: int, refusals: Refusals) -> Ite
             yield lines.facts.count
         return
     events = Events(path, refusals, lines.ids)
-    for found in shared(events.block, source.blocks(), jobs):
-        if isinstance(found, located.Block):
-            for piece in events.pieces(found, refusals):
+    for found in shared(partial(events.block, source), (place for place, _ in source.placed()), jobs):
+        if isinstance(found, located.Place):
+            for piece in events.pieces(source.block(found), refusals):
                 lines.add_piece(piece)
         else:
             lines.add_piece(found[0])

@@ -4,10 +4,10 @@ import re
 from functools import lru_cache
 from typing import Any, Iterator, Optional
 
-from new_enemy_tools.importing import located, openfga_dsl
+from new_enemy_tools.importing import located, openfga_dsl, printed
 from new_enemy_tools.importing.block import When
 from new_enemy_tools.importing.checks import Look
-from new_enemy_tools.importing.events import EVERY, Event, Relationship, RelationRule, Stamp, put_stamp
+from new_enemy_tools.importing.events import EVERY, Event, Line, Relationship, RelationRule, Stamp, put_stamp
 from new_enemy_tools.importing.feed import Moment, asked_of, moment_of, placed, shown_of
 from new_enemy_tools.importing.located import List, line_at, line_of
 from new_enemy_tools.importing.models import Given, said_by
@@ -16,7 +16,8 @@ from new_enemy_tools.importing.reading import Bad, get, spelled
 from new_enemy_tools.importing.refusals import Refusals
 from new_enemy_tools.importing.service import (Answer, Log, Looked, ServiceRules, demand_of, nested, one_of, refuse_wild_tuplesets,
                                                text_or_none)
-from new_enemy_tools.importing.shapes import ID, LABEL, PART, REPLY, REST, TEXT, TIME, WHOLE, Field, Said, field, form, needed
+from new_enemy_tools.importing.shapes import (ID, LABEL, NULL, PART, REPLY, REST, STAMP, TEXT, TIME, USER_RELATION, WHOLE, Field, Form, Said, field,
+                                              form, needed)
 from new_enemy_tools.importing.simple_yaml import beside, is_yaml, read_yaml
 from new_enemy_tools.importing.spool import CALL, Lines
 from new_enemy_tools.importing.times import nanoseconds
@@ -27,15 +28,35 @@ OPERATIONS = {"TUPLE_OPERATION_WRITE": True, 0: True, "TUPLE_OPERATION_DELETE": 
 # Whether the newest state is asked for: the names and the numbers that JSON of protobuf may have.
 CONSISTENCY = {None: False, "UNSPECIFIED": False, 0: False, "MINIMIZE_LATENCY": False, 100: False, "HIGHER_CONSISTENCY": True, 200: True}
 ASKS_FOR_NEWEST = {json.dumps(one).encode(): asks for one, asks in CONSISTENCY.items()}
+# Where a Write says what becomes of tuples that are there already, or are not; and what it says where it makes all its changes or none.
+PASSES_OVER = (("writes", "on_duplicate"), ("deletes", "on_missing"))
+IN_FULL = (None, "", "error")
 REWRITES = ("this", "computedUserset", "tupleToUserset", "union", "intersection", "difference")
 
 MOMENT = b'(?:%s|"(%s+)")' % (WHOLE, TEXT)
+USER = field(b'"(%s+):((?!\\*")%s+)"' % (PART, REST), "user_type", "user_id")
+# also one that has a relation
+RELATION = field(b'"(%s+):((?!\\*")%s+)(?:#(%s+))?"' % (PART, REST, REST), "user_type", "user_id", USER_RELATION)
 
 
-def _goal(path: str, thing: bytes) -> dict[str, Field]:
+def _goal(path: str, thing: bytes, user: Field = USER) -> dict[str, Field]:
     """The fields of a tuple key at a path."""
     return {path + "object": field(b'"(%s+):(%s)"' % (PART, thing), "type", "id"), path + "relation": field(b'"(%s+)"' % TEXT, "relation"),
-            path + "user": field(b'"(%s+):((?!\\*")%s+)"' % (PART, REST), "user_type", "user_id")}
+            path + "user": user}
+
+
+def _forms(request: str, response: str, time: dict[str, Field], *fixed: str, read: Optional[frozenset[str]] = None) -> tuple[Form, Form]:
+    """Those of a check and of a content check, by what stands before the keys of the request and of the response."""
+    asked = {**_goal(request + ".tuple_key.", ID), request + ".authorization_model_id": field(b'"(%s*)"' % TEXT, "model"),
+             request + ".consistency": field(b'("[A-Z_]+"|[0-9]{1,3})', "consistency", is_steady=False), request + ".context": NULL,
+             request + ".contextual_tuples": NULL, request + ".contextual_tuples.tuple_keys": NULL,
+             request + ".contextual_tuples.tuple_keys.0": NULL, response + ".allowed": field(REPLY, "reply"),
+             "snapshot": field(MOMENT, "place", "moment", is_steady=False), **time}
+    token, version = field(MOMENT, "token_place", "token", is_steady=False), field(LABEL, "version")
+    check, content = ({**asked, path + "token": token, path + "version": version} for path in ("", "content."))
+    # Lines of another store are seen by a shape of their own.
+    fixed, free = (response + ".resolution", request + ".store_id", *fixed), (request + ".trace",)
+    return form(check, *fixed, free=free, read=read), form(content, *fixed, free=free, read=read)
 
 
 @lru_cache(1 << 12)
@@ -231,20 +252,18 @@ class OpenFgaLog(Log):
     DECISIONS = frozenset(("Check", "BatchCheck", "ListObjects", "StreamedListObjects", "ListUsers"))
     WRITES = ("Write",)
     CALL_KNOWN = "other call (Write)"
-    GIVE_CHANGES = "give the changes as ReadChanges answers them, or each line of Write its `time`"
+    PARTIAL = ("type",)
+    GIVE_CHANGES = ("give the changes as ReadChanges answers them, or each line of Write its `time`, of which none may pass over what is there "
+                    "already")
     KEYS = Log.KEYS | {"snapshot", "snapshot_between", "token"}
     RULES = (b'"type_definitions"', b'"typeDefinitions"', b'"authorization_model"', b'"authorizationModel"', b'"authorization_models"',
              b'"authorizationModels"')
-    ASKED = {**_goal("request.tuple_key.", ID), "request.authorization_model_id": field(b'"(%s*)"' % TEXT, "model"),
-             "request.consistency": field(b'("[A-Z_]+"|[0-9]{1,3})', "consistency"),
-             "response.allowed": field(REPLY, "reply"), "snapshot": field(MOMENT, "place", "moment"), "time": field(TIME, "time")}
-    FIXED = ("response.resolution",)
-    CHECK = form({**ASKED, "token": field(MOMENT, "token_place", "token"), "version": field(LABEL, "version")}, *FIXED)
-    CONTENT_CHECK = form({**ASKED, "content.token": field(MOMENT, "token_place", "token"), "content.version": field(LABEL, "version")},
-                         *FIXED)
-    WRITE = form({"%s%s" % (page, path): one for page in ("", "changes.0.") for path, one in {
-        **_goal("tuple_key.", REST + b"+"), "timestamp": field(b'"(%s+)"' % TEXT, "timestamp")}.items()} | {"time": field(TIME, "time")},
-        "operation", "changes.0.operation", "continuation_token")
+    CHECK, CONTENT_CHECK = _forms("request", "response", {"time": field(TIME, "time")})
+    LOGGED = (_forms("raw_request", "raw_response", {"timestamp": field(STAMP, "time", "epoch", is_steady=False)},
+                     "level", "msg", "grpc_service", "grpc_method", "grpc_code", read=KEYS | printed.READ),)
+    WRITE = form({"%s%s" % (page, path): one for page in ("", "changes.*.") for path, one in {
+        **_goal("tuple_key.", REST + b"+", RELATION), "tuple_key.condition": NULL, "timestamp": field(b'"(%s+)"' % TEXT, "timestamp")}.items()}
+        | {"time": field(TIME, "time")}, "operation", "changes.*.operation", free=("continuation_token",))
     BASE = "place in the changes feed or time of RFC 3339"
 
     def __init__(self, rules: ServiceRules, base_at: Optional[Moment], refusals: Refusals):
@@ -263,10 +282,25 @@ class OpenFgaLog(Log):
     def base_number(self) -> Optional[int]:
         return None if self.base_at is None else 0
 
+    def _line(self, value: Any, stamp: Stamp, path: str, line: int) -> Iterator[Line]:
+        """A server may have several stores, and a trace is of one."""
+        store = get(get(value, "request"), "store_id")
+        for one in super()._line(value, stamp, path, line):
+            if isinstance(store, str) and store:
+                self.refusals.stores.setdefault(store, (path, line))
+            yield one
+
+    def _refuse_stores(self) -> None:
+        (first, place), *others = self.refusals.stores.items() or [("", ("", 0))]
+        for store, (path, line) in others:
+            self.refusals.refuse(path, line, "this call is of the store %s, and that of %s:%d of the store %s: give the lines of one store"
+                                 % (store[:80], *place, first[:80]))
+
     def placed(self, lines: Lines, skew: Optional[int]) -> Lines:
+        self._refuse_stores()
+        self.refuse_unseen(lines)
         # Of a call the service does not say which changes are its; where the log has any, it has all.
         lines = self.with_calls(lines, lambda row: None)
-        self.refuse_unseen(lines)
         first = len(self.rules.others) + 1
         return placed(lines, self.base_at or Moment(None, None, "the beginning"), Given(self.models, first, self.apart), skew, self.refusals)
 
@@ -322,7 +356,7 @@ class OpenFgaLog(Log):
         request = get(value, "request")
         sides = [("deletes", False), ("writes", True)]
         keys = [(key, live) for side, live in sides for key in get(get(request, side), "tuple_keys") or ()]
-        if not keys or stamp.time is None:
+        if not keys or stamp.time is None or any(get(get(request, side), key) not in IN_FULL for side, key in PASSES_OVER):
             return
         for place, (key, live) in enumerate(keys):
             event = put_stamp(Event(CALL, path, line_of(key, line), stamp.time, get(value, "time")), stamp, place)

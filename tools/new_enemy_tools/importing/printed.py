@@ -4,13 +4,15 @@ Each becomes a line with a `request` and a `response`, as a recorder writes it. 
 their public sources.
 """
 from datetime import datetime, timezone
-from typing import Any, Iterable, Optional
+from typing import Any, Iterable, NamedTuple, Optional
 
 from new_enemy_tools.importing.reading import Bad, get
 from new_enemy_tools.importing.times import nanoseconds
 
 REQUEST, RESPONSE = "grpc.request.content", "grpc.response.content"
 FINISHED = "finished call"
+# The keys of a line of OpenFGA's log, and those of an event, that are read.
+READ = frozenset(("specversion", "data", "type", "raw_request", "raw_response", "grpc_method", "grpc_service", "grpc_code", "timestamp"))
 REQUEST_ID = ("requestID", "requestId", "request_id")
 OWN = "line of the service's own log"
 UNTOLD = "the line of this call has no request and no response: run `ne record`, or let the server log both"
@@ -33,7 +35,7 @@ def unwrapped(value: Any, keys: Iterable[str]) -> Any:
         return {"method": HEALTH}
     code, given = value.get("grpc_code"), {key: value[key] for key in keys if key in value}
     found = {"request": value.get("raw_request"), "response": value.get("raw_response"), "error": value.get("error"),
-             "method": value.get("grpc_method"), "status": {"code": code} if code else None, "time": _time_of(value.get("timestamp"))}
+             "method": value.get("grpc_method"), "status": {"code": code} if code else None, "time": time_of(value.get("timestamp"))}
     return _filled({**found, **given})
 
 
@@ -46,7 +48,7 @@ def _filled(found: dict[str, Any]) -> dict[str, Any]:
     return {key: one for key, one in found.items() if one is not None}
 
 
-def _time_of(stamp: object) -> Optional[str]:
+def time_of(stamp: object) -> Optional[str]:
     """The time of a line of OpenFGA's log, which is a text or seconds since 1970; None where it is neither."""
     if isinstance(stamp, str) and nanoseconds(stamp) is not None:
         return stamp
@@ -71,8 +73,30 @@ def plain_of(content: Any) -> Any:
         if key[:1].isupper() and (one is None or isinstance(one, dict) and all(name[:1].isupper() for name in one)):
             made.update((name[:1].lower() + name[1:], plain_of(inner)) for name, inner in (one or {}).items())
         else:
-            made[key] = plain_of(one)
+            made[key] = plain_of(one) if isinstance(one, (dict, list)) else one
     return made
+
+
+class Step(NamedTuple):
+    """What a line does to what waits: a request (0), a response (1), or the end of a call (2); its id, and whether more responses may come."""
+
+    kind: int
+    found: str
+    is_stream: bool
+
+
+def is_stream(value: dict[str, Any]) -> bool:
+    """Whether a response may have others behind it."""
+    return str(value.get("grpc.method_type")).endswith("stream")
+
+
+def steps_of(value: Any) -> list[Step]:
+    """What a line does to what waits, if it does anything."""
+    if not Joining.takes(value) or _is_health(value.get("grpc.service")):
+        return []
+    kind = 0 if REQUEST in value else 1 if RESPONSE in value else 2
+    found = next((value[key] for key in REQUEST_ID if isinstance(value.get(key), str)), None)
+    return [] if found is None and kind < 2 else [Step(kind, found or "", kind == 1 and is_stream(value))]
 
 
 class Joining:
@@ -81,6 +105,8 @@ class Joining:
     def __init__(self) -> None:
         self.waiting: dict[str, tuple[Any, int]] = {}
         self.answered: dict[str, None] = {}
+        # what the lines did, where that is noted
+        self.steps: Optional[list[Step]] = None
 
     @staticmethod
     def takes(value: Any) -> bool:
@@ -92,6 +118,8 @@ class Joining:
         if _is_health(value.get("grpc.service")):
             return {"method": HEALTH} if RESPONSE not in value and REQUEST not in value else None
         found = next((value[key] for key in REQUEST_ID if isinstance(value.get(key), str)), None)
+        if self.steps is not None:
+            self.steps += steps_of(value)
         told = {"method": value.get("grpc.method"), "time": value.get("time")}
         if RESPONSE not in value and REQUEST not in value:
             return self._ended(found, value.get("grpc.code"), told)
@@ -106,10 +134,18 @@ class Joining:
         self.answered[found] = None
         if len(self.answered) > ANSWERED:
             del self.answered[next(iter(self.answered))]
-        if not str(value.get("grpc.method_type")).endswith("stream"):
+        if not is_stream(value):
             del self.waiting[found]
         given = {key: value[key] for key in keys if key in value and key not in ("time", "error", "method")}
         return _filled({**told, "request": request, "response": plain_of(value[RESPONSE]), **given})
+
+    def go_on(self, value: Any, line: int) -> None:
+        """Goes on behind a line whose call is not asked for."""
+        try:
+            if self.takes(value):
+                self.joined(value, line, ())
+        except Bad:
+            pass
 
     def left(self) -> list[int]:
         """The lines of requests that no line answered."""

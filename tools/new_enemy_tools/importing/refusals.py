@@ -46,8 +46,12 @@ class Refusals:
         self.gap_since: Optional[int] = None
         # the changes of the schema that a log tells of
         self.updated: list[tuple[Optional[int], str, int]] = []
+        # the calls that deleted something, each with its revision
+        self.deleted: list[tuple[Optional[int], str, int]] = []
         # of each call that wrote, and whose line does not say all of that, the first line
         self.unseen: dict[str, tuple[str, int]] = {}
+        # the stores that calls name, each with the first line that does
+        self.stores: dict[str, tuple[str, int]] = {}
         self.doubts: list[tuple[str, Optional[str], str]] = []
         self.versions: set[tuple[str, str, str]] = set()
         # whether a content check was left out of which it is not known what it issued
@@ -68,8 +72,11 @@ class Refusals:
             self.note(kind, text)
         self._reach_back(other.gap_since)
         self.updated += other.updated
+        self.deleted += other.deleted
         for call, place in other.unseen.items():
             self.unseen.setdefault(call, place)
+        for store, place in other.stores.items():
+            self.stores.setdefault(store, place)
         self.doubts += other.doubts
         self.versions |= other.versions
 

@@ -1,13 +1,12 @@
 """What the front ends of the services share."""
-from contextlib import closing
 from functools import partial
-from itertools import islice
-from typing import Any, Callable, Iterable, Iterator, Mapping, NamedTuple, Optional
+from typing import Any, Callable, Iterable, Iterator, Mapping, NamedTuple, Optional, Union
 
 from new_enemy_tools import limits
 from new_enemy_tools.importing import causes, located, passing, printed
 from new_enemy_tools.importing.block import Reader, Usual, When
 from new_enemy_tools.importing.called import with_calls
+from new_enemy_tools.importing.carried import Blocks, Carried, Otherwise, is_as_read
 from new_enemy_tools.importing.checks import NEWEST, Look, Row
 from new_enemy_tools.importing.events import EVERY, STAMP, Entry, Event, Line, Relationship, Stamp, newest_of, sequence_of, stamp_of
 from new_enemy_tools.importing.reading import Bad, get
@@ -15,7 +14,6 @@ from new_enemy_tools.importing.refusals import Refusals
 from new_enemy_tools.importing.shapes import Form, Said
 from new_enemy_tools.importing.spool import Lines, Read
 from new_enemy_tools.keys import near, unread
-from new_enemy_tools.parting.sharing import shared
 from new_enemy_tools.rules import places
 
 
@@ -103,13 +101,16 @@ class Log:
     # whether the answers of calls that write have revisions
     HAS_REVISIONS = False
     CALL_KNOWN = GIVE_CHANGES = ""
+    # what a request has that asks for some of the changes alone
+    PARTIAL: tuple[str, ...] = ()
     # what stands in each line that says of new rules
     RULES: tuple[bytes, ...] = ()
     CONTENT = frozenset(("version", "token"))
-    # the usual check, content check, and write of one tuple
+    # the usual check, content check, and write; and the usual checks and content checks as they are printed
     CHECK: Form
     CONTENT_CHECK: Form
     WRITE: Form
+    LOGGED: tuple[tuple[Form, Form], ...] = ()
 
     def __init__(self, rules: ServiceRules, base_at: Any, refusals: Refusals):
         self.rules, self.base_at, self.refusals = rules, base_at, refusals
@@ -158,6 +159,11 @@ class Log:
         """The revision of a write of a usual shape, as `writes` has it; None where it has none."""
         raise NotImplementedError
 
+    @staticmethod
+    def relation_of(given: Optional[bytes]) -> Optional[str]:
+        """The relation of a tuple's user, as a usual shape has it."""
+        return given and given.decode() or None
+
     def _takes(self, of: str, relation: str, user_type: str, user_relation: Optional[str]) -> bool:
         return (user_type, user_relation) in self.rules.takes.get((of, relation), ())
 
@@ -175,47 +181,50 @@ class Log:
 
     def gather(self, path: str, lines: Lines, jobs: int) -> Iterator[int]:
         """Adds the lines of a log; how many there are, now and then. New rules matter to all behind them, which one process reads."""
-        usual = Usual(self.CHECK, self.CONTENT_CHECK, self.WRITE, self.look_of, self.when_of, self._takes)
+        checks, contents = zip((self.CHECK, self.CONTENT_CHECK), *self.LOGGED)
+        usual = Usual(checks, contents, (self.WRITE,), self.look_of, self.when_of, self._takes, self.relation_of)
         source, reader = located.Source(path), Reader(path, usual, lines.ids.kept_users)
         if not source.is_lines():
             for line in self.events(path, source.values(self.refusals)):
                 lines.add(line)
                 yield lines.facts.count
-            self._end(path)
+            self._end(path, self.joining.left())
             return
-        count = 0
-        with closing(shared(partial(self._block, reader), source.blocks(), jobs)) as blocks:
-            for count, found in enumerate(blocks):
-                if found is None:
-                    break
+        blocks = Blocks(source, partial(self._block, source, reader), jobs)
+        for found in blocks.read():
+            if isinstance(found, located.Block):
+                self.joining = blocks.joining
+                for piece in reader.pieces(found, partial(self._full, path)):
+                    lines.add_piece(piece)
+            else:
                 lines.add_piece(found[0])
                 self.refusals.merge(found[1])
-                yield lines.facts.count
-            else:
-                return
-        for block in islice(source.blocks(), count, None):
-            for piece in reader.pieces(block, partial(self._full, path)):
-                lines.add_piece(piece)
             yield lines.facts.count
-        self._end(path)
+        self._end(path, blocks.left)
 
-    def _end(self, path: str) -> None:
+    def _end(self, path: str, left: list[int]) -> None:
         """A call whose response does not stand in the file of its request was not told."""
-        for line in self.joining.left():
+        for line in left:
             self.refusals.unread_check(path, line, causes.UNREADABLE, "the log has no response of this request")
         self.joining = printed.Joining()
 
-    def _block(self, reader: Reader, block: located.Block) -> Optional[tuple[Read, Refusals]]:
-        """What a process makes of a block; None where it may have new rules."""
-        if any(mark in block.data for mark in self.RULES):
-            return None
-        kept, self.refusals = self.refusals, Refusals(self.refusals.skip)
+    def _block(self, source: located.Source, reader: Reader, given: Carried) -> Union[tuple[Read, Refusals], Carried, None]:
+        """What a process makes of a block; the block itself where it may have new rules, and None where lines are joined otherwise than they seem."""
+        block = source.block(given.place)
+        if any(mark in text for mark in self.RULES for text in (block.data, *(line for line, _ in given.waiting.values()))):
+            return given
+        kept = self.refusals, self.joining
         try:
-            read, = reader.pieces(block, partial(self._full, reader.path))
-            assert isinstance(read, Read)
-            return read, self.refusals
+            self.refusals, self.joining = Refusals(self.refusals.skip), given.joining()
+            read, *others = reader.pieces(block, partial(self._full, reader.path))
+            if not is_as_read(block, self.joining.steps):
+                return None
+            # A key of new rules may be written in another way.
+            return given if others or not isinstance(read, Read) else (read, self.refusals)
+        except Otherwise:
+            return None
         finally:
-            self.refusals = kept
+            self.refusals, self.joining = kept
 
     def _full(self, path: str, number: int, line: bytes) -> list[Line]:
         """What a line has, read in full."""
@@ -244,11 +253,19 @@ class Log:
         if is_check and get(changes, self.DECIDES[0]) is not None:
             yield from self._checks(value, stamp, path, line)
         elif self.is_write(changes):
+            self._refuse_partial(get(value, "request"), changes)
             yield from self.writes(changes, stamp, path, line)
         elif (rules := self.new_rules(value)) is not None:
             yield from self.change(rules, value, stamp, path, line)
         else:
             yield from self._call(value, is_check, stamp, path, line)
+
+    def _refuse_partial(self, request: object, changes: object) -> None:
+        """Of changes that were asked for in part it is not known what stands between them; raises Bad."""
+        found = get(changes, "changes") or get(get(changes, "result") or changes, "updates")
+        asked = [key for key in self.PARTIAL if get(request, key)] if found else []
+        if asked:
+            raise Bad("the request of these changes has `%s`, and an audit needs all changes: ask without it" % asked[0])
 
     def _call(self, value: Any, is_check: bool, stamp: Stamp, path: str, line: int) -> Iterator[Line]:
         """What a line has that is no single decision, no change and no rules; raises Bad."""
@@ -289,7 +306,7 @@ class Log:
         return made
 
     def refuse_unseen(self, lines: Lines) -> None:
-        """Writes that no line tells would make each right reply behind them a wrong one."""
+        """Writes that no line tells would make right replies behind them wrong ones, and stale ones right; the service's changes have all."""
         if any(True for _ in lines.writes()):
             return
         for call, (path, line) in self.refusals.unseen.items():

@@ -1,6 +1,4 @@
 """The texts of a trace's lines."""
-import json
-from json.encoder import encode_basestring  # type: ignore[attr-defined]
 from typing import Any, Callable, Iterable, Iterator, Optional
 
 from new_enemy_tools import texts
@@ -10,14 +8,13 @@ from new_enemy_tools.importing.checks import NEWEST, Checks, Look, column
 from new_enemy_tools.importing.declared import Declared
 from new_enemy_tools.importing.times import in_utc, text_of_time
 from new_enemy_tools.rules import Declaration, Relation, form_of
+from new_enemy_tools.trace_lines import check_lines, check_start, commit_line, entry_line, look_text, mark_text, source_keys, value_line, within_quotes, with_mark
 
 Demanded = Callable[[tuple[Any, ...], Optional[str], int, Optional[int]], Optional[int]]
-encode = json.JSONEncoder(ensure_ascii=False, separators=(",", ":")).encode
 
 
-def _time(time: Optional[int]) -> str:
-    """The key of a time, where there is one."""
-    return "" if time is None else ',"time":"%s"' % text_of_time(time)
+def _text(time: Optional[int]) -> Optional[str]:
+    return None if time is None else text_of_time(time)
 
 
 class Shown:
@@ -34,57 +31,55 @@ class Shown:
 
     def begin(self) -> None:
         """The first line says which table is the trace's."""
-        self.mark = encode({"ids": self.ids.mark()})[1:-1]
+        self.mark = mark_text(ids=self.ids.mark())
 
     def go_on(self, has_other_strata: bool) -> None:
-        """The rules stand in the days before. Where strata are others by now, the first line says all of them."""
+        """The rules stand in the days before. The first line says that an import wrote it, whose table the days before say; and where strata are
+        others by now, all of them."""
         self._head = []
         listed = [[self.ids.name("namespace", name), self.ids.name("relation", relation), stratum]
                   for (name, relation), stratum in self.strata.items()]
-        self.mark = encode({"strata": listed})[1:-1] if has_other_strata else ""
+        self.mark = mark_text(ids={"rows": len(self.ids.rows)}, strata=listed if has_other_strata else None)
 
     def head(self) -> Iterator[str]:
         for namespace in self._head:
-            yield self._marked(encode(namespace) + "\n")
+            yield self._marked(value_line(namespace))
 
     def _marked(self, line: str) -> str:
         """The first line, with what it says of the whole."""
         if self.mark:
-            line, self.mark = "%s,%s}\n" % (line.rstrip("\n")[:-1], self.mark), ""
+            line, self.mark = with_mark(line.rstrip("\n").encode(), self.mark).decode() + "\n", ""
         return line
 
     def _file(self, file: str) -> str:
-        """A file's name within quotation marks, of which the last is left out."""
-        known: str = encode_basestring(file)[:-1]
-        self.files[file] = known
+        """A file's name as lines have it, kept from line to line."""
+        known = self.files.get(file)
+        if known is None:
+            known = self.files[file] = within_quotes(file)
         return known
 
     def commit(self, revision: int, shown: str, file: str, line: int, time: Optional[int], parts: list[Any]) -> Iterator[str]:
-        source = ',"revision":%s,"from":%s:%d"%s}\n' % (encode_basestring(shown), self.files.get(file) or self._file(file), line, _time(time))
+        source = source_keys(shown, self._file(file), line, _text(time))
         for at, (add, remove) in enumerate(parts, self.times[revision] - len(parts) + 1):
-            added = ',"add":[%s]' % ",".join(map(encode_basestring, add)) if add else ""
-            removed = ',"remove":[%s]' % ",".join(map(encode_basestring, remove)) if remove else ""
-            yield self._marked('{"kind":"commit","at":%d%s%s%s' % (at, added, removed, source))
+            yield self._marked(commit_line(at, add, remove, source))
 
     def change(self, revision: int, shown: str, file: str, line: int, time: Optional[int]) -> Iterator[str]:
         changes = self.changes.get(revision, ())
         told = {"revision": shown, "from": "%s:%d" % (file, line), **({} if time is None else {"time": text_of_time(time)})}
         for at, change in enumerate(changes, self.times[revision] - len(changes) + 1):
-            yield self._marked(encode({**change, "at": at, **told}) + "\n")
+            yield self._marked(value_line({**change, "at": at, **told}))
 
     def checks(self, checks: Checks) -> list[str]:
         """The lines of many checks, whose users are numbers."""
         ids = self.ids
-        begins = ['{"kind":"check","goal":"%s:' % ids.name("namespace", of) for of, _ in checks.pairs]
-        ends = ["#%s@" % ids.name("relation", relation) for _, relation in checks.pairs]
+        starts = [check_start(ids.name("namespace", of)) for of, _ in checks.pairs]
+        relations = [ids.name("relation", relation) for _, relation in checks.pairs]
         users = list(map(str, checks.users))
         looks = self._looks([(*look[:3], look[1], *look[4:]) if look[3] == NEWEST else look for look in checks.looks], checks.file)
-        columns = (column(checks.pair_of), checks.objects.split("\n"), column(checks.user_of), column(checks.look_of), column(checks.lines, "Q"))
-        times = map(in_utc, checks.times.split("\n"))
-        made = [f'{begins[pair]}{thing}{ends[pair]}{users[user]}{looks[look]}{line}","time":"{time}"}}\n' if time else
-                f'{begins[pair]}{thing}{ends[pair]}{users[user]}{looks[look]}{line}"}}\n'
-                for pair, thing, user, look, line, time in zip(*columns, times)] if checks.times else [
-            f'{begins[pair]}{thing}{ends[pair]}{users[user]}{looks[look]}{line}"}}\n' for pair, thing, user, look, line in zip(*columns)]
+        pairs = column(checks.pair_of)
+        made = check_lines(map(starts.__getitem__, pairs), checks.objects.split("\n"), map(relations.__getitem__, pairs),
+                           map(users.__getitem__, column(checks.user_of)), map(looks.__getitem__, column(checks.look_of)), column(checks.lines, "Q"),
+                           map(in_utc, checks.times.split("\n")) if checks.times else None)
         if any(look[3] == NEWEST for look in checks.looks):
             self._demand_versions(checks, looks, made)
         return made
@@ -105,12 +100,9 @@ class Shown:
 
     def _looks(self, looks: Iterable[tuple[Any, ...]], file: str) -> list[str]:
         """What stands in the lines of checks from their users to the numbers of the lines that they come from."""
-        times, source = self.times, self.files.get(file) or self._file(file)
-        return ['","snapshot":%d,"reply":%s%s%s,"revision":%s,"from":%s:' % (
-            times[snapshot], "true" if reply else "false",
-            "" if token is None else ',"zookie":"%s"' % texts.zookie_text(times[token]),
-            "" if version is None else ',"version":' + encode_basestring(version), encode_basestring(shown), source)
-            for reply, snapshot, shown, token, version, _ in looks]
+        times, source = self.times, self._file(file)
+        return [look_text(times[snapshot], reply, None if token is None else texts.zookie_text(times[token]), version, shown, source)
+                for reply, snapshot, shown, token, version, _ in looks]
 
     def entry(self, row: tuple[Any, ...], is_again: bool = False) -> str:
         """The line of an entry, by the fields of its row; and whether it is one that stands before, at another state."""
@@ -120,10 +112,7 @@ class Shown:
                                 ids.number("user", goal[3], goal[4]))
         token = self.demanded(goal, version, snapshot, token)
         look = Look(reply, snapshot, shown, token, None if version is None else ids.version(version), None)
-        part, named = row[15:17]
-        more = _time(row[13]) + ("" if part is None else ',"part":' + encode_basestring(part))
-        more += ("" if named is None else ',"named":' + encode_basestring(named)) + (',"again":true' if is_again else "")
-        made = '{"kind":"%s","goal":%s%s%d"%s}\n' % (kind, encode_basestring(text)[:-1], self._looks([look], file)[0], line, more)
+        made = entry_line(kind, text, self._looks([look], file)[0], line, _text(row[13]), *row[15:17], is_again)
         return self._marked(made) if self.mark else made
 
     def _namespace(self, declaration: Declaration) -> dict[str, Any]:

@@ -3,16 +3,15 @@ import re
 from dataclasses import replace
 from typing import Any, Iterator, Optional
 
-from new_enemy_tools.importing import located, visibility
+from new_enemy_tools.importing import located, printed, visibility
 from new_enemy_tools.importing.block import When
-from new_enemy_tools.importing.checks import Look
+from new_enemy_tools.importing.checks import Look, Row
 from new_enemy_tools.importing.events import EVERY, Event, Line, Relationship, Stamp, put_stamp
 from new_enemy_tools.importing.located import line_of
-from new_enemy_tools.importing.printed import REQUEST, RESPONSE
 from new_enemy_tools.importing.reading import Bad, get
 from new_enemy_tools.importing.refusals import Refusals
 from new_enemy_tools.importing.service import Answer, Log, Looked, ServiceRules, demand_of, one_of, text_or_none
-from new_enemy_tools.importing.shapes import GOAL, ID, LABEL, NULL, TEXT, TIME, Field, Said, field, form, needed
+from new_enemy_tools.importing.shapes import GOAL, ID, LABEL, NULL, TEXT, TIME, USER_RELATION, Field, Form, Said, field, form, needed
 from new_enemy_tools.importing.simple_yaml import is_yaml, read_yaml
 from new_enemy_tools.importing.spicedb_answers import answers_of, relationship_of, revision_at, revision_in
 from new_enemy_tools.importing.spicedb_schema import Parser
@@ -26,6 +25,7 @@ RELATIONSHIP = re.compile(r"(?P<type>[a-z0-9_/]+):(?P<id>[A-Za-z0-9/_|\-=+]+)#(?
 # as `zed relationship read` prints it
 READ = re.compile(RELATIONSHIP.pattern.replace("#(?P<relation>", " +(?P<relation>").replace("@(?P<user_type>", " +(?P<user_type>")
                   .replace("(?P<traits>", " *(?P<traits>"))
+WORD = rb"[a-z0-9_]"
 # By names and numbers.
 OPERATIONS = {"OPERATION_CREATE": True, 1: True, "OPERATION_TOUCH": True, 2: True, "OPERATION_DELETE": False, 3: False}
 
@@ -37,9 +37,27 @@ def _goal(path: str, relation: str, thing: bytes) -> dict[str, Field]:
     return {path + key: field(b'"(%s)"' % pattern, name) for (key, pattern), name in zip(patterns.items(), GOAL)}
 
 
+def _forms(path: str, *fixed: str, read: Optional[frozenset[str]] = None) -> tuple[Form, Form]:
+    """Those of a check and of a content check, by what stands before `request` and `response`."""
+    asked = {**_goal(path + "request.", "permission", ID), path + "request.context": NULL, path + "response.partial_caveat_info": NULL,
+             path + "response.debug_trace": NULL, path + "response.optional_expires_at": NULL,
+             path + "response.checked_at.token": field(b'"(%s+)"' % TEXT, "snapshot"),
+             path + "request.consistency.fully_consistent": field(b"(true)", "newest"),
+             path + "response.permissionship": field(b'"PERMISSIONSHIP_(HAS|NO)_PERMISSION"', "reply"), "time": field(TIME, "time")}
+    token, version = field(b'"(%s+)"' % TEXT, "token"), field(LABEL, "version")
+    paths = (path + "request.consistency.at_least_as_fresh.token", "version"), ("content.token", "content.version")
+    fixed = (*(path + key for key in ("request.consistency.minimize_latency", "request.subject.optional_relation", "request.with_tracing")), *fixed)
+    check, content = (form({**asked, at: token, label: version}, *fixed, read=read) for at, label in paths)
+    return check, content
+
+
 def key_of(revision: Revision) -> Optional[int]:
     """What two tokens of one write have in common."""
     return revision.snapshot.own if revision.snapshot else revision.number
+
+
+def _key_of_row(row: Row) -> Optional[int]:
+    return row[12][0][3] if row[12] else row[3]
 
 
 class SpiceDbLog(Log):
@@ -47,27 +65,22 @@ class SpiceDbLog(Log):
     NO_LINE = "neither a response of Watch nor a check with its `request`"
 
     BASE = "token or revision"
-    # and what stands in lines that are joined with others
-    RULES = (b'"schema"', b'"%s"' % REQUEST.encode(), b'"%s"' % RESPONSE.encode())
+    RULES = (b'"schema"',)
     HAS_REVISIONS = True
     WRITES = ("WriteRelationships", "DeleteRelationships", "ImportBulkRelationships")
     CALL_KNOWN = "other call (WriteRelationships)"
+    PARTIAL = ("optionalObjectTypes", "optionalRelationshipFilters")
     GIVE_CHANGES = "give the watch stream, which has each change with its revision"
     DECIDES = ("permissionship", "pairs", "resourceObjectId", "subject", "subjectObjectId")
-    ASKED = {**_goal("request.", "permission", ID), "request.context": NULL, "response.partial_caveat_info": NULL,
-             "response.debug_trace": NULL, "response.optional_expires_at": NULL, "response.checked_at.token": field(b'"(%s+)"' % TEXT, "snapshot"),
-             "request.consistency.fully_consistent": field(b"(true)", "newest"),
-             "response.permissionship": field(b'"PERMISSIONSHIP_(HAS|NO)_PERMISSION"', "reply"), "time": field(TIME, "time")}
-    FIXED = ("request.consistency.minimize_latency", "request.subject.optional_relation", "request.with_tracing")
-    CHECK = form({**ASKED, "request.consistency.at_least_as_fresh.token": field(b'"(%s+)"' % TEXT, "token"),
-                  "version": field(LABEL, "version")}, *FIXED)
-    CONTENT_CHECK = form({**ASKED, "content.version": field(LABEL, "version"), "content.token": field(b'"(%s+)"' % TEXT, "token")}, *FIXED)
+    CHECK, CONTENT_CHECK = _forms("")
+    LOGGED = (_forms("data.", "specversion", "type", read=printed.READ | {"time"}),)
     WRITE = form({"%s%s" % (result, path): one for result in ("", "result.") for path, one in {
-        **_goal("updates.0.relationship.", "relation", b"%s+" % TEXT), "changes_through.token": field(b'"(%s+)"' % TEXT, "revision"),
+        **_goal("updates.*.relationship.", "relation", b"%s+" % TEXT), "changes_through.token": field(b'"(%s+)"' % TEXT, "revision"),
+        "updates.*.relationship.subject.optional_relation": field(b'"(\\.\\.\\.|%s*)"' % WORD, USER_RELATION),
         "schema_updated": field(b"false"), "optional_transaction_metadata": NULL, "time": field(TIME, "time")}.items()},
         *("%s%s" % (result, path) for result in ("", "result.") for path in (
-            "updates.0.operation", "updates.0.relationship.subject.optional_relation", "updates.0.relationship.optional_caveat",
-            "updates.0.relationship.optional_expires_at", "is_checkpoint", "full_revision_metadata.0")))
+            "updates.*.operation", "updates.*.relationship.optional_caveat", "updates.*.relationship.optional_expires_at", "is_checkpoint",
+            "full_revision_metadata.0")))
     OTHERS = {"WriteRelationships": ("request.updates",), "DeleteRelationships": ("response.deletedAt",),
               "ReadRelationships": ("request.relationshipFilter",), "ExpandPermissionTree": ("response.treeRoot",),
               "ReadSchema": ("response.schemaText",), "ReflectSchema": (), "DiffSchema": (), "ImportBulkRelationships": (),
@@ -91,8 +104,9 @@ class SpiceDbLog(Log):
 
     def placed(self, lines: Lines, skew: Optional[int]) -> Lines:
         """Numbers for the snapshots of PostgreSQL; a log has either those or numbers."""
-        lines = self.with_calls(lines, lambda row: row[12][0][3] if row[12] else row[3])
         self.refuse_unseen(lines)
+        self._refuse_deleted(lines)
+        lines = self.with_calls(lines, _key_of_row)
         for key, path, line in self.refusals.updated:
             if key not in self.written:
                 self.refusals.refuse(path, line, "the schema changes here, and the log has no WriteSchema of this revision")
@@ -111,6 +125,20 @@ class SpiceDbLog(Log):
                                  % (number.shown, snapshot.file, snapshot.line))
             return Lines()
         return visibility.placed(list(lines), base, skew, self.refusals)
+
+    def _refuse_deleted(self, lines: Lines) -> None:
+        """A deletion is in the log by its change alone. Where the log has none at all, that was refused."""
+        known = {_key_of_row(row) for row in lines.writes()} if self.refusals.deleted else set()
+        for key, path, line in self.refusals.deleted if known else ():
+            if key not in known:
+                self.refusals.refuse(path, line, "this DeleteRelationships deleted something, and the log has no change of its revision: "
+                                     "give the whole watch stream")
+
+    def _other_call(self, value: object, path: str, line: int) -> Optional[str]:
+        response = get(value, "response")
+        if get(response, "deletedAt") is not None and get(response, "relationshipsDeletedCount") not in (None, 0, "0"):
+            self.refusals.deleted.append((key_of(revision_in(get(response, "deletedAt"), "`deletedAt` of the response")), path, line))
+        return super()._other_call(value, path, line)
 
     def base(self, path: str) -> Iterator[Event]:
         """One relationship a line, as a text; or those of a validation file."""
@@ -188,6 +216,10 @@ class SpiceDbLog(Log):
         except Older:
             return None
         return When(revision.number, revision.shown) if revision and revision.number is not None else None
+
+    @staticmethod
+    def relation_of(given: Optional[bytes]) -> Optional[str]:
+        return None if given == b"..." else given and given.decode() or None
 
     def look_of(self, said: Said) -> Optional[Look]:
         demanded, version = said.get("token"), said.get("version")

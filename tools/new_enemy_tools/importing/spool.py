@@ -89,6 +89,9 @@ class Facts:
         self.base_time: Optional[int] = None
         self.files: dict[str, int] = {}
         self.is_sequenced = True
+        # the first sequence and the last, and whether all lines but the first rules have one, each a greater one than the line before
+        self.sequences: Optional[tuple[tuple[int, int], tuple[int, int]]] = None
+        self.is_rising = True
         self.is_chained = False
         self.has_newest = self.has_between = self.has_groups = self.has_every = self.has_asked = self.has_calls = False
 
@@ -98,7 +101,10 @@ class Facts:
         if isinstance(line, Entry):
             self.has_newest |= line.newest and line.lowest is None
             self.has_between |= line.lowest is not None
-        else:
+            self.note_sequence(line.sequence)
+        elif line.kind != "rules" or line.revision is not None:
+            self.note_sequence(line.sequence)
+        if not isinstance(line, Entry):
             if line.base:
                 self.last_base, self.base_source = self.count - 1, (line.file, line.line)
                 self._note_base(line.sequence, line.time)
@@ -115,10 +121,18 @@ class Facts:
         self.base_sequence = max(filter(None, (self.base_sequence, sequence)), default=None)
         self.base_time = max((one for one in (self.base_time, time) if one is not None), default=None)
 
-    def note_checks(self, file: str, first: int) -> None:
-        """Checks of a file without a sequence, and the line of the first."""
+    def note_sequence(self, sequence: Optional[tuple[int, int]]) -> None:
+        """The sequence of the next line."""
+        if sequence is None or self.sequences is not None and sequence <= self.sequences[1]:
+            self.is_rising = False
+        else:
+            self.sequences = (sequence if self.sequences is None else self.sequences[0]), sequence
+
+    def note_checks(self, file: str, first: int, has_all: bool = False) -> None:
+        """Lines of a file, of which the first is told, and whether all have a sequence, which is noted of each."""
         self.files.setdefault(file, first)
-        self.is_sequenced = False
+        self.is_sequenced &= has_all
+        self.is_rising &= has_all
 
     def merge(self, other: "Facts") -> None:
         """Those of lines that stand behind."""
@@ -129,6 +143,11 @@ class Facts:
         for file, line in other.files.items():
             self.files.setdefault(file, line)
         self.is_sequenced &= other.is_sequenced
+        self.is_rising &= other.is_rising and (self.sequences is None or other.sequences is None or self.sequences[1] < other.sequences[0])
+        if self.sequences is None or other.sequences is None:
+            self.sequences = self.sequences or other.sequences
+        else:
+            self.sequences = self.sequences[0], other.sequences[1]
         for name in ("has_newest", "has_between", "has_groups", "has_every", "has_asked", "has_calls"):
             setattr(self, name, getattr(self, name) or getattr(other, name))
 

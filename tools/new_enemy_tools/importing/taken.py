@@ -18,6 +18,8 @@ from new_enemy_tools.importing.spool import Spool, line_of, row_of
 from new_enemy_tools.progress import Progress
 
 Item = Union[Commit, Event]
+# So many tuples fit on a line of a trace, whatever their names.
+FEW = 16
 
 
 class Taken:
@@ -41,9 +43,9 @@ class Taken:
         # of the lines among many checks those that are kept, each with the number of checks before it
         self.among: Optional[list[Other]] = None
         self.at = 0
-        # the commit to which a write behind it may belong, or the row of its only write with its text
+        # the commit to which a write behind it may belong, or the row of its only write with the texts that it adds and removes
         self.open: Optional[Commit] = None
-        self.single: Optional[tuple[tuple[Any, ...], str]] = None
+        self.single: Optional[tuple[tuple[Any, ...], tuple[list[str], list[str]]]] = None
         self.last = base_revision
         # where the last write stood; none where it is the base state
         self.last_place: Optional[tuple[str, int, Optional[str]]] = None
@@ -90,26 +92,32 @@ class Taken:
     def _close(self) -> None:
         """Keeps the commit that is open."""
         if self.single:
-            row, text = self.single
+            row, sides = self.single
             self.wanted[row[3]] = 1
-            self._keep(("commit", row[3], row[4], row[1], row[2], row[8], [([text], []) if row[10] else ([], [text])]))
+            self._keep(("commit", row[3], row[4], row[1], row[2], row[8], [sides]))
             self.single = None
         elif self.open:
             self.keep(self.open)
             self.open = None
 
     def _take_single(self, row: tuple[Any, ...]) -> bool:
-        """Takes a write of one tuple that is a commit by itself as yet; whether it is one."""
-        revision, group, given = row[3], row[6], row[10] + row[11]
-        if row[5] or revision is None or len(given) != 1 or self.last is not None and revision <= self.last:
+        """Takes a write of few tuples that is a commit by itself as yet; whether it is one."""
+        revision, group, count = row[3], row[6], len(row[10]) + len(row[11])
+        if row[5] or revision is None or not 0 < count <= FEW or self.last is not None and revision <= self.last:
             return False
         if group is not None and group == (self.single[0][6] if self.single else self.open and self.open.event.group):
             return False
-        text = self.writer.text_of(given[0])
-        if text is None:
+        sides: tuple[list[str], list[str]] = ([], [])
+        for side, listed in zip(sides, row[10:12]):
+            for given in listed:
+                text = self.writer.text_of(given)
+                if text is None:
+                    return False
+                side.append(text)
+        if len({*sides[0], *sides[1]}) < count:
             return False
         self._close()
-        self.last, self.last_place, self.single = revision, (row[1], row[2], row[4]), (row, text)
+        self.last, self.last_place, self.single = revision, (row[1], row[2], row[4]), (row, sides)
         self.count += 1
         self.progress.step("ordered %s events", self.count)
         return True
@@ -149,7 +157,7 @@ class Taken:
             numbers[place] = self.ids.number("user", *checks.users[place])
         self._pass(checks.size)
         self.count += checks.size
-        self.items.add_batch(marshal.dumps(tuple(checks._replace(users=numbers, numbers=[], others=self.among))))
+        self.items.add_batch(marshal.dumps(tuple(checks._replace(users=numbers, numbers=[], others=self.among, sequences=b""))))
         self.among = None
 
     def _are_plain(self, checks: Checks) -> bool:

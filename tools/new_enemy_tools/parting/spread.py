@@ -2,7 +2,8 @@
 from array import array
 from typing import NamedTuple, Sequence
 
-from new_enemy_tools.parting.placing import ENTRIES, EVERYWHERE, RECORDS, Objects, line_of, object_of
+from new_enemy_tools.parting.placing import EVERYWHERE, Objects, line_of, object_of
+from new_enemy_tools.trace_lines import OBJECTS as ENTRIES, RECORDS
 
 JOINED = 1 << 22
 

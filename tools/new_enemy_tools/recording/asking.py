@@ -2,9 +2,10 @@
 import http.client
 import json
 import socket
-import ssl
 from typing import Any, Iterator, Optional
 from urllib.parse import SplitResult, urlsplit
+
+from new_enemy_tools.recording.secured import context_of
 
 TIMEOUT = 30.0
 
@@ -20,16 +21,22 @@ class FeedFault(Exception):
 class Asker:
     """Asks one service; the key goes into the header that services read, and nowhere else."""
 
-    def __init__(self, url: str, key: Optional[str]):
+    def __init__(self, url: str, key: Optional[str], ca: Optional[str] = None):
         self.url: SplitResult = urlsplit(url)
-        self.headers = {"Content-Type": "application/json", **({"Authorization": "Bearer " + key} if key else {})}
+        self.headers = {"Content-Type": "application/json"}
+        if key:
+            self.use_key(key)
+        self.context = context_of(ca) if self.url.scheme == "https" else None
         self.connection: Optional[http.client.HTTPConnection] = None
 
     def _connected(self, timeout: float) -> http.client.HTTPConnection:
         host = self.url.hostname or ""
         if self.url.scheme == "https":
-            return http.client.HTTPSConnection(host, self.url.port, timeout=timeout, context=ssl.create_default_context())
+            return http.client.HTTPSConnection(host, self.url.port, timeout=timeout, context=self.context)
         return http.client.HTTPConnection(host, self.url.port, timeout=timeout)
+
+    def use_key(self, key: str) -> None:
+        self.headers = {**self.headers, "Authorization": "Bearer " + key}
 
     def ask(self, method: str, path: str, body: Any = None) -> Any:
         """The JSON of an answer; raises FeedFault."""

@@ -13,7 +13,7 @@ import subprocess
 import sys
 import time
 from argparse import SUPPRESS, Namespace
-from typing import Any, Optional
+from typing import Any, NamedTuple, Optional
 from urllib.parse import SplitResult, urlsplit
 
 from new_enemy_tools.commands.running import Parser
@@ -22,9 +22,11 @@ from new_enemy_tools.recording.spicedb_http import HttpSource
 from new_enemy_tools.recording.core import Service
 from new_enemy_tools.recording.keeper import Feed, Keeper, Settings
 from new_enemy_tools.recording.log_files import AGE, SIZE
-from new_enemy_tools.recording.messages import Bye, Teller
+from new_enemy_tools.recording.messages import Bye, Key, Teller
+from new_enemy_tools.recording.metrics import MetricsServer, Seen, StatusReader, exposition
 from new_enemy_tools.recording.openfga_feed import OpenFgaFeed
 from new_enemy_tools.recording.relay import Relay
+from new_enemy_tools.recording.secured import Certificate, FileFault, context_of, key_in
 
 ENTRY = os.path.join(os.path.dirname(os.path.dirname(os.path.dirname(os.path.abspath(__file__)))), "record")
 TICK = 0.05
@@ -43,10 +45,17 @@ def words(arguments: list[str]) -> tuple[Parser, Namespace]:
     which.add_argument("--openfga", metavar="URL", help="where OpenFGA answers, as http://127.0.0.1:8080")
     which.add_argument("--spicedb", metavar="URL", help="where SpiceDB's HTTP gateway answers, or with --grpc its gRPC")
     parser.add_argument("--grpc", action="store_true", help="speak gRPC, which needs grpcio")
-    parser.add_argument("--listen", metavar="ADDRESS", required=True, help="where the application asks in place of the service, as 127.0.0.1:8090")
+    parser.add_argument("--changes-only", action="store_true", help="record the changes of OpenFGA alone, for checks that do not pass here")
+    parser.add_argument("--listen", metavar="ADDRESS", help="where the application asks in place of the service, as 127.0.0.1:8090")
     parser.add_argument("--out", metavar="FOLDER", required=True, help="the folder of the log")
     parser.add_argument("--store", metavar="ID", help="the store of OpenFGA that is recorded, where there are several")
     parser.add_argument("--key-file", metavar="FILE", help="a file with the key by which the recorder reads the changes")
+    parser.add_argument("--tls-cert", metavar="FILE", help="speak TLS to the application, with the certificates of this file")
+    parser.add_argument("--tls-key", metavar="FILE", help="the key of the certificate, where --tls-cert does not have it")
+    parser.add_argument("--service-ca", metavar="FILE", help="the certificates by which the service is believed, in place of the system's")
+    parser.add_argument("--share-port", action="store_true", help="let other recorders listen at the same address, so that one takes over "
+                        "where another dies; each has a log of its own")
+    parser.add_argument("--metrics", metavar="ADDRESS", help="where /health and /metrics are answered, as 127.0.0.1:8091")
     parser.add_argument("--hold", type=float, default=30.0, metavar="SECONDS", help="how long a check waits for the changes that it saw (30)")
     parser.add_argument("--poll", type=float, default=0.05, metavar="SECONDS", help="the rest of OpenFGA between two reads of its changes (0.05)")
     parser.add_argument("--horizon", type=float, default=0.0, metavar="SECONDS", help="how late OpenFGA shows its changes at least, as its "
@@ -56,14 +65,15 @@ def words(arguments: list[str]) -> tuple[Parser, Namespace]:
     parser.add_argument("--stale-by", type=float, default=0.0, metavar="SECONDS", help="how long OpenFGA may answer from its cache (0)")
     parser.add_argument("--file-bytes", type=int, default=SIZE, metavar="N", help="how long a file of the log is at most (512 MB)")
     parser.add_argument("--file-seconds", type=float, default=AGE, metavar="N", help="how long a file of the log is written to (an hour)")
+    parser.add_argument("--compress", action="store_true", help="compress each file of the log, by gzip, when it is closed")
     parser.add_argument("--keep", type=int, help=SUPPRESS)
     return parser, parser.parse_args(arguments)
 
 
-def address_of(parser: Parser, text: str) -> tuple[str, int]:
+def address_of(parser: Parser, text: str, word: str) -> tuple[str, int]:
     host, colon, port = text.rpartition(":")
     if not colon or not port.isdigit() or int(port) > 65535:
-        parser.error("--listen is no ADDRESS:PORT")
+        parser.error("%s is no ADDRESS:PORT" % word)
     return host.strip("[]"), int(port)
 
 
@@ -75,28 +85,59 @@ def url_of(parser: Parser, text: str) -> SplitResult:
         is_good = False
     if not is_good:
         parser.error("the URL is none of http or https, as http://127.0.0.1:8080")
+    if "@" in url.netloc:
+        parser.error("the URL has a name or a password before its host, which anyone could read in a list of processes: leave it out, and give "
+                     "a key by --key-file")
     return url
 
 
-def key_of(parser: Parser, given: Namespace) -> Optional[str]:
-    if given.key_file is None:
-        return None
-    try:
-        with open(given.key_file, encoding="ascii") as file:
-            key = file.read().strip()
-    except (OSError, UnicodeDecodeError) as fault:
-        parser.error("--key-file can't be read: %s" % fault)
-    if not key or not key.isprintable():
-        parser.error("--key-file has no key on one line")
-    return key
+class Side(NamedTuple):
+    """What the application's side of the proxy has: where it listens, and where it says how it stands; the files that are read again."""
+
+    address: tuple[str, int]
+    metrics: Optional[tuple[str, int]]
+    certificate: Optional[Certificate]
+    key_file: Optional[str]
+    is_shared: bool
+
+
+def side_of(parser: Parser, given: Namespace) -> Side:
+    if given.tls_key is not None and given.tls_cert is None:
+        parser.error("--tls-key goes with --tls-cert")
+    if given.grpc and (given.tls_cert or given.service_ca or given.share_port):
+        parser.error("--tls-cert, --service-ca and --share-port do not go with --grpc")
+    certificate = None if given.tls_cert is None else Certificate(given.tls_cert, given.tls_key)
+    metrics = None if given.metrics is None else address_of(parser, given.metrics, "--metrics")
+    address = ("", 0) if given.changes_only else address_of(parser, given.listen, "--listen")
+    return Side(address, metrics, certificate, given.key_file, given.share_port)
+
+
+class NoRelay:
+    """Where the changes alone are recorded nothing passes."""
+
+    refused = 0
+
+    def connections(self) -> int:
+        return 0
+
+    def is_busy(self) -> bool:
+        return False
+
+    def stop(self) -> None:
+        """There is nothing to stop."""
+
+    async def close(self) -> None:
+        """There is nothing to close."""
 
 
 def relay_of(settings: Settings, url: SplitResult, teller: Teller) -> Any:
     """What passes the requests on; gRPC needs a library that not all have."""
+    if settings.only:
+        return NoRelay()
     if settings.grpc:
         from new_enemy_tools.recording.grpc_relay import GrpcRelay
         return GrpcRelay(url, teller)
-    return Relay(url, teller, CALLS[settings.service], (files_raised() - FILES) // 2)
+    return Relay(url, teller, CALLS[settings.service], (files_raised() - FILES) // 2, settings.ca)
 
 
 def files_raised() -> int:
@@ -112,9 +153,11 @@ def files_raised() -> int:
 class Proxy:
     """The proxy's process, with the keeper that it starts, and starts again where it ends."""
 
-    def __init__(self, settings: Settings, url: SplitResult):
-        self.settings = settings
+    def __init__(self, settings: Settings, url: SplitResult, side: Side):
+        self.settings, self.side = settings, side
         self.teller = Teller(None)
+        self.status, self.starts = StatusReader(), 0
+        self.metrics = MetricsServer(lambda: self.status.is_recording(time.monotonic()), self.numbers)
         self.relay = relay_of(settings, url, self.teller)
         self.keeper: Optional[subprocess.Popen[bytes]] = None
         self.start_at = 0.0
@@ -133,12 +176,30 @@ class Proxy:
         self.keeper.stdin.write(json.dumps(self.settings).encode())
         self.keeper.stdin.close()
         self.teller.end = mine
+        self.starts += 1
+
+    def numbers(self) -> str:
+        seen = Seen(self.teller.answered, self.relay.connections(), self.relay.refused, self.starts)
+        return exposition(self.status, seen, time.monotonic())
+
+    def read_again(self) -> None:
+        """Takes what the files of the key and the certificate have now; where one can't be used, what was there stays."""
+        try:
+            if self.side.certificate is not None:
+                self.side.certificate.load()
+            if self.side.key_file is not None:
+                self.settings = self.settings._replace(key=key_in(self.side.key_file))
+                self.teller.tell(Key(self.settings.key or ""))
+            sys.stderr.write("record: the files of keys and certificates were read again\n")
+        except FileFault as fault:
+            sys.stderr.write("record: what was read before stays in use: %s\n" % fault)
 
     def tick(self) -> None:
         """Starts the keeper where there is none, and tells it what waits."""
         try:
             if self.keeper is not None and self.keeper.poll() is not None and not self.is_over:
                 self.teller.forget()
+                self.status.forget()
                 self.keeper, self.start_at = None, time.monotonic() + AGAIN
             if self.keeper is None and time.monotonic() > self.start_at and not self.is_over:
                 self.start_keeper()
@@ -146,12 +207,14 @@ class Proxy:
             sys.stderr.write("record: the keeper of the log can't be started: %s\n" % fault.strerror)
             self.start_at = time.monotonic() + AGAIN
         self.teller.catch_up()
+        self.status.read(self.teller.end, time.monotonic())
 
-    async def run(self, host: str, port: int) -> int:
+    async def run(self) -> int:
         loop, over = asyncio.get_running_loop(), asyncio.Event()
         for number in (signal.SIGTERM, signal.SIGINT):
             loop.add_signal_handler(number, over.set)
-        await self.relay.serve(host, port)
+        loop.add_signal_handler(signal.SIGHUP, self.read_again)
+        await self.listen()
         while not over.is_set():
             self.tick()
             try:
@@ -159,12 +222,25 @@ class Proxy:
             except asyncio.TimeoutError:
                 pass
         self.relay.stop()
+        if self.side.metrics is not None:
+            self.metrics.stop()
         until = time.monotonic() + LAST
         while self.relay.is_busy() and time.monotonic() < until:
             self.teller.catch_up()
             await asyncio.sleep(TICK)
         await self.relay.close()
         return await self.end()
+
+    async def listen(self) -> None:
+        certificate = self.side.certificate
+        if self.settings.only:
+            pass
+        elif self.settings.grpc:
+            await self.relay.serve(*self.side.address)
+        else:
+            await self.relay.serve(*self.side.address, None if certificate is None else certificate.context, self.side.is_shared)
+        if self.side.metrics is not None:
+            await self.metrics.serve(*self.side.metrics)
 
     async def end(self) -> int:
         """Tells the keeper all that is to be told and that it is over, and waits for it to close the log."""
@@ -188,17 +264,17 @@ class Proxy:
 def service_of(settings: Settings) -> tuple[Service, Feed]:
     """What places the calls of a service, and what reads its changes."""
     if settings.service == "openfga":
-        made = openfga.OpenFga(settings.store, int(settings.stale * 1e9), int(settings.hold * 1e9), int(settings.horizon * 1e9))
+        made = openfga.OpenFga(settings.store, int(settings.stale * 1e9), int(settings.hold * 1e9), int(settings.horizon * 1e9), settings.only)
         return made, OpenFgaFeed(settings)
     if settings.grpc:
         from new_enemy_tools.recording.spicedb_grpc import GrpcSource
         return spicedb.SpiceDb(), spicedb.Feed(GrpcSource(settings.url, settings.key))
-    return spicedb.SpiceDb(), spicedb.Feed(HttpSource(settings.url, settings.key))
+    return spicedb.SpiceDb(), spicedb.Feed(HttpSource(settings.url, settings.key, settings.ca))
 
 
 def keep(descriptor: int) -> int:
     """The keeper's process, which ends when the proxy does."""
-    for number in (signal.SIGTERM, signal.SIGINT):
+    for number in (signal.SIGTERM, signal.SIGINT, signal.SIGHUP):
         signal.signal(number, signal.SIG_IGN)
     settings = Settings(*json.loads(sys.stdin.buffer.read()))
     return Keeper(settings, *service_of(settings), socket.socket(fileno=descriptor)).run()
@@ -210,18 +286,31 @@ def main(arguments: list[str]) -> int:
         return keep(given.keep)
     if given.store is not None and not given.openfga:
         parser.error("--store goes with --openfga")
+    if given.changes_only and not given.openfga:
+        parser.error("--changes-only goes with --openfga")
+    if given.changes_only == (given.listen is not None):
+        parser.error("give either --listen or --changes-only")
+    if given.changes_only and (given.tls_cert or given.share_port):
+        parser.error("--tls-cert and --share-port go with --listen")
     if given.grpc and not given.spicedb:
         parser.error("--grpc goes with --spicedb")
     if min(given.hold, given.poll, given.stale_by, given.file_seconds, given.horizon, given.overlap) < 0 or given.file_bytes < 1:
         parser.error("a number is below 0")
     if given.hold < 2 * given.horizon:
         parser.error("--hold has to be twice as long as --horizon, since each check waits for that")
-    url, (host, port) = url_of(parser, given.openfga or given.spicedb), address_of(parser, given.listen)
-    settings = Settings("openfga" if given.openfga else "spicedb", given.openfga or given.spicedb, given.out, given.store,
-                        key_of(parser, given), given.grpc, given.hold, given.poll, given.stale_by, given.file_bytes, given.file_seconds,
-                        given.horizon, given.overlap)
+    url = url_of(parser, given.openfga or given.spicedb)
     try:
-        return asyncio.run(Proxy(settings, url).run(host, port))
+        side = side_of(parser, given)
+        key = None if given.key_file is None else key_in(given.key_file)
+        if given.service_ca is not None:
+            context_of(given.service_ca)
+    except FileFault as fault:
+        parser.error(str(fault))
+    settings = Settings("openfga" if given.openfga else "spicedb", given.openfga or given.spicedb, given.out, given.store,
+                        key, given.grpc, given.hold, given.poll, given.stale_by, given.file_bytes, given.file_seconds,
+                        given.horizon, given.overlap, given.service_ca, given.compress, given.changes_only)
+    try:
+        return asyncio.run(Proxy(settings, url, side).run())
     except OSError as fault:
         sys.stderr.write("record: cannot listen at %s: %s\n" % (given.listen, fault.strerror))
         return 5

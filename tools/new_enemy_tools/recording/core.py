@@ -6,6 +6,7 @@ It has no socket, no clock, no thread and no file: who drives it says what time 
 import gzip
 import json
 import zlib
+from collections import Counter
 from functools import partial
 from itertools import chain
 from typing import Any, Callable, Iterable, Iterator, NamedTuple, Optional, Protocol
@@ -144,6 +145,12 @@ class Core:
         self.now = Now(0, 0)
         self.sequencer, self.gaps = Sequencer(), Gaps()
         self.is_ready = self.is_over = False
+        # when the service last told of its changes, and whether they can't be read
+        self.fed: Optional[int] = None
+        self.is_faulty = False
+        # how many decisions stand in the log, and how many were lost, by cause
+        self.recorded = 0
+        self.lost: Counter[str] = Counter()
         self.ticks = 0
         self.left: Optional[Left] = None
         self.place = Place(None, 0, None)
@@ -170,7 +177,7 @@ class Core:
             elif isinstance(message, Ended):
                 self._end(message)
             elif isinstance(message, Lost):
-                self.gaps.add(message.reason, message.start, message.end, message.amount)
+                self._add_gap(message.reason, message.start, message.end, message.amount)
                 self._say_gaps(False)
             elif isinstance(message, Bye):
                 if not message.at and not self.is_over:
@@ -178,8 +185,10 @@ class Core:
                 self.is_over = True
                 self._tell_until(FOREVER)
             elif isinstance(message, Faulty):
+                self.is_faulty = True
                 self.say(message.reason)
             elif not isinstance(message, Beat):
+                self.fed, self.is_faulty = now.clock, False
                 self.service.take(message, self)
                 self.service.moved(self)
         except Exception as fault:
@@ -240,8 +249,12 @@ class Core:
 
     def lose(self, reason: str, since: int, count: int = 1) -> None:
         """Something is not recorded, since a time or now."""
-        self.gaps.add(reason, since or self.now.wall, self.now.wall, count)
+        self._add_gap(reason, since or self.now.wall, self.now.wall, count)
         self._say_gaps(False)
+
+    def _add_gap(self, reason: str, start: int, end: int, count: int) -> None:
+        self.gaps.add(reason, start, end, count)
+        self.lost[reason] += count
 
     def tried(self, message: Ended, work: Callable[[], None]) -> None:
         """Does something for a call; where that fails, this one call is a gap."""
@@ -308,6 +321,7 @@ class Core:
                     made.append(place_line(self.place))
             else:
                 made.append(one.data)
+                self.recorded += one.data.count(b"\n")
                 self.held.pop(one.call, None)
         return b"".join(made)
 

@@ -76,7 +76,7 @@ class Handler(grpc.GenericRpcHandler):  # type: ignore[misc]
 class GrpcRelay:
     def __init__(self, url: SplitResult, teller: Teller):
         self.url, self.teller = url, teller
-        self.under_way = 0
+        self.under_way = self.refused = 0
         self.server: Any = None
         self.channel: Any = None
         self.stopping: Optional[asyncio.Future[Any]] = None
@@ -102,6 +102,10 @@ class GrpcRelay:
     async def close(self) -> None:
         await self.server.stop(0)
         await self.channel.close()
+
+    def connections(self) -> int:
+        """Over gRPC a connection is not seen, and calls under way are."""
+        return self.under_way
 
     def is_busy(self) -> bool:
         return self.under_way > 0

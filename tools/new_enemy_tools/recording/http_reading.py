@@ -13,6 +13,9 @@ BODY = 16 << 20
 NAME = re.compile(rb"[!#$%&'+*.^_`|~0-9A-Za-z-]+")
 # A line that ends in one way, and has no other sign that some read as an end.
 STRAY = re.compile(rb"(?<!\r)\n|\r(?!\n|\Z)|\x00")
+# The first line of a request that is read along.
+REQUEST = re.compile(rb"[!#$%&'+*.^_`|~0-9A-Za-z-]+ [!-~]+ HTTP/1\.[01]")
+CONTROL = re.compile(rb"[\x00-\x08\x0a-\x1f\x7f]")
 SIZE = re.compile(rb"([0-9A-Fa-f]{1,15})[ \t]*(?:;.*)?", re.DOTALL)
 Raw = Callable[[bytes], None]
 
@@ -21,22 +24,31 @@ class Strange(Exception):
     """Something that is no HTTP/1.1, or none that is read along."""
 
 
+def _field(line: bytes) -> tuple[bytes, bytes]:
+    """The name and the value of a header, or of a trailer; raises Strange."""
+    name, colon, value = line.partition(b":")
+    if not colon:
+        raise Strange("a header without a colon")
+    if not NAME.fullmatch(name):
+        raise Strange("a header whose name has blanks or other signs")
+    if CONTROL.search(value):
+        raise Strange("a header with a sign that is no text")
+    return name, value
+
+
 class Head:
     """The first line of a message and its headers, by their names in small letters; of one that stands twice the last, and its name."""
 
     def __init__(self, raw: bytes):
         first, *rest = raw.split(b"\r\n")
+        self.is_request = REQUEST.fullmatch(first) is not None
         self.words = first.decode("latin-1").split(" ", 2)
         if len(self.words) < 2:
             raise Strange("a first line of fewer than two words")
         self.values: dict[str, bytes] = {}
         self.twice: set[str] = set()
         for one in rest:
-            name, colon, value = one.partition(b":")
-            if not colon:
-                raise Strange("a header without a colon")
-            if not NAME.fullmatch(name):
-                raise Strange("a header whose name has blanks or other signs")
+            name, value = _field(one)
             key = name.decode("ascii").lower()
             if key in self.values:
                 self.twice.add(key)
@@ -189,6 +201,8 @@ class Messages:
         line = self._line()
         if line is None:
             return False
+        if line:
+            _field(line)
         return bool(line) or self._finish()
 
     def _finish(self) -> bool:

@@ -13,7 +13,9 @@ from typing import Any, Callable, NamedTuple, Optional, Protocol
 from new_enemy_tools.recording.asking import FeedFault
 from new_enemy_tools.recording.core import Core, Faulty, Now, Service
 from new_enemy_tools.recording.log_files import InUse, Left, LogFault, LogFiles
-from new_enemy_tools.recording.messages import KINDS, Bye, Ended, messages_from
+from new_enemy_tools.recording.messages import KINDS, Bye, Ended, Key, messages_from
+from new_enemy_tools.recording.metrics import Status, StatusSender
+from new_enemy_tools.shown import tell
 
 # Of so many messages, or of so many bytes in them, more are not taken in; the proxy and the service wait, or count what is lost.
 MESSAGES = 20_000
@@ -39,6 +41,9 @@ class Settings(NamedTuple):
     age: float
     horizon: float = 0.0
     overlap: float = 2.0
+    ca: Optional[str] = None
+    packs: bool = False
+    only: bool = False
 
 
 class Feed(Protocol):
@@ -46,6 +51,9 @@ class Feed(Protocol):
 
     def run(self, left: Optional[Left], put: Callable[[Any], None]) -> None:
         """Reads the changes, in a thread of its own, and puts what it reads into the queue; raises FeedFault where it can't."""
+
+    def use_key(self, key: str) -> None:
+        """Takes another key for what is asked from now on."""
 
 
 def _weight(message: Any) -> int:
@@ -60,7 +68,8 @@ class Keeper:
         self.queue: queue.SimpleQueue[Any] = queue.SimpleQueue()
         # how many bytes have come into the queue and have been taken; each is changed by one thread
         self.came = self.taken = 0
-        self.log = LogFiles(settings.folder, settings.service, settings.size, settings.age, settings.hold)
+        self.log = LogFiles(settings.folder, settings.service, settings.size, settings.age, settings.hold, settings.packs)
+        self.sender = StatusSender(end)
         self.said: Optional[str] = None
         self.gone_at: Optional[float] = None
 
@@ -70,7 +79,7 @@ class Keeper:
             text = "recording %s at %s into %s" % (self.settings.service, self.settings.url, self.settings.folder)
         if text != self.said:
             self.said = text
-            sys.stderr.write("record: %s\n" % text)
+            tell("record: %s" % text, sys.stderr)
             sys.stderr.flush()
 
     # The queue
@@ -100,10 +109,19 @@ class Keeper:
             if time.monotonic() - ticked > TICK:
                 ticked = time.monotonic()
                 self.core.tick(_now())
+                self.sender.tell(self._status())
             self._write()
+
+    def _status(self) -> Status:
+        core = self.core
+        lag = None if core.fed is None else (time.monotonic_ns() - core.fed) / 1e9
+        return Status(core.recorded, dict(core.lost), len(core.held), lag, not core.is_ready or core.is_faulty)
 
     def _read_proxy(self) -> None:
         for message in messages_from(self.end):
+            if isinstance(message, Key):
+                self.feed.use_key(message.text)
+                continue
             if isinstance(message, Bye):
                 self.gone_at = time.monotonic()
             while self.came - self.taken > ROOM:
@@ -207,12 +225,17 @@ class Keeper:
         self.core.end(_now())
         if self.core.is_ready:
             self._write()
-            self.log.close()
+            self._close()
         elif self.core.gaps.open:
             self._write_whole(self.core.end_unbegun())
             self._tell()
             if self.core.left is not None:
-                self.log.close()
+                self._close()
+
+    def _close(self) -> None:
+        self.log.close()
+        if self.log.packer is not None:
+            self.log.packer.end()
 
 
 def _now() -> Now:

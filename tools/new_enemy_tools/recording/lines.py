@@ -6,6 +6,7 @@ from typing import Any, Iterable, Iterator, Optional
 
 from new_enemy_tools.importing.events import EVERY, Relationship
 from new_enemy_tools.importing.service import ServiceRules
+from new_enemy_tools.importing.times import text_of_time
 
 ENCODE = json.JSONEncoder(ensure_ascii=False, separators=(",", ":")).encode
 # So many tuples of the base state stand on a line.
@@ -33,19 +34,28 @@ def tuple_list(given: Relationship) -> list[str]:
     return [*given[:4], "*", EVERY] if given.is_every else [*given[:5], given.user_relation]
 
 
-def rules_line(rules: ServiceRules, revision: Optional[int]) -> bytes:
+Came = tuple[Optional[int], int]
+
+
+def _came(came: Optional[Came]) -> Optional[list[Optional[str]]]:
+    return None if came is None else [None if came[0] is None else time_text(came[0]), time_text(came[1])]
+
+
+def rules_line(rules: ServiceRules, revision: Optional[int], model: Optional[str] = None, came: Optional[Came] = None) -> bytes:
     listed = [{"name": name, "relations": [{"name": one.name, "rewrite": one.rewrite} for one in relations]}
               for name, relations in rules.event.namespaces.items()]
-    return line("rules", revision=revision, namespaces=listed)
+    return line("rules", revision=revision, model=model, came=_came(came), namespaces=listed)
 
 
 def hash_of_rules(rules: ServiceRules) -> str:
     return hashlib.sha256(rules_line(rules, None)).hexdigest()
 
 
-def write_line(revision: int, add: Iterable[Relationship], remove: Iterable[Relationship]) -> bytes:
-    return line("write", revision=revision, add=[tuple_list(one) for one in add] or None,
-                remove=[tuple_list(one) for one in remove] or None)
+def write_line(revision: int, add: Iterable[Relationship], remove: Iterable[Relationship], time: Optional[int] = None,
+               came: Optional[Came] = None) -> bytes:
+    """A write; `time` is when OpenFGA says that it was, or when SpiceDB told it, and `came` from when to when by the clock of the recorder."""
+    return line("write", revision=revision, time=None if time is None else text_of_time(time), came=_came(came),
+                add=[tuple_list(one) for one in add] or None, remove=[tuple_list(one) for one in remove] or None)
 
 
 def base_lines(revision: int, tuples: list[Relationship]) -> Iterator[bytes]:

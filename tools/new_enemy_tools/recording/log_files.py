@@ -3,19 +3,30 @@
 A line is written whole or not at all. What a killed recorder left is cut behind its last whole line, and closed by the next with a gap.
 """
 import fcntl
+import gzip
 import hashlib
 import json
 import os
+import queue
 import re
+import shutil
+import sys
+import threading
 import time
 from collections import deque
 from typing import Any, NamedTuple, Optional
 
+from new_enemy_tools.importing.opened import opened
 from new_enemy_tools.importing.times import nanoseconds
 from new_enemy_tools.recording.lines import gap_line, line, time_text
 from new_enemy_tools.recording.overlap import Known
 
-NAME = re.compile(r"[0-9]{6}\.jsonl")
+NAME = re.compile(r"[0-9]{6}\.jsonl(?:\.gz)?")
+PACKED = ".gz"
+# What is compressed by half, in no list of the log's files.
+PART = re.compile(r"\.[0-9]{6}\.part")
+# So long the end of a recorder waits for what is compressed.
+PATIENCE = 5.0
 SIZE = 512 << 20
 AGE = 3600.0
 # A first line that was cut is shorter.
@@ -75,8 +86,10 @@ class _Found(NamedTuple):
 
 
 class LogFiles:
-    def __init__(self, folder: str, service: str, size: int = SIZE, age: float = AGE, hold: float = 0.0):
+    def __init__(self, folder: str, service: str, size: int = SIZE, age: float = AGE, hold: float = 0.0, packs: bool = False):
+        """`packs` says whether files are compressed when they are closed."""
         self.folder, self.service, self.limit, self.age, self.hold = folder, service, size, age, hold
+        self.packer = Packer() if packs else None
         self.descriptor: Optional[int] = None
         self.number = 0
         self.before: Optional[str] = None
@@ -105,13 +118,23 @@ class LogFiles:
     def recover(self) -> Optional[Left]:
         """Closes what an earlier recorder left, and says where it was; raises LogFault."""
         try:
+            for name in os.listdir(self.folder):
+                if PART.fullmatch(name):
+                    os.remove(os.path.join(self.folder, name))
             names = sorted(name for name in os.listdir(self.folder) if NAME.fullmatch(name))
+            for name in [name for name in names if name + PACKED in names]:
+                # It was compressed whole, and not removed.
+                os.remove(os.path.join(self.folder, name))
+                names.remove(name)
             while names:
                 path = os.path.join(self.folder, names[-1])
                 found = self._take_over(path)
                 if found is not None:
-                    changes = _last_changes([os.path.join(self.folder, name) for name in names], found.writes + found.place.behind)
-                    return found._replace(base=_base_of(os.path.join(self.folder, names[0])), changes=changes)
+                    paths = [os.path.join(self.folder, name) for name in names]
+                    changes = _last_changes(paths, found.writes + found.place.behind)
+                    base = _base_of(paths[0])
+                    self._pack_all(paths)
+                    return found._replace(base=base, changes=changes)
                 # What was begun and has no base state yet is of no use.
                 os.remove(path)
                 names.pop()
@@ -123,7 +146,7 @@ class LogFiles:
         """Reads a file and closes it; None where it has no beginning, with the base state where it is the first."""
         head, size, closed, hashed = None, 0, None, hashlib.sha256()
         place, writes, revision, last, count = Place(None, 0, None), 0, 0, None, 0
-        with open(path, "rb") as file:
+        with opened(path) as file:
             for raw in file:
                 value = _value_of(raw)
                 if value is None or closed:
@@ -143,7 +166,9 @@ class LogFiles:
                 elif kind == "closed":
                     closed = value
                     continue
-                last = value.get("time") or last
+                if kind != "write":
+                    # The time of a write is the service's.
+                    last = value.get("time") or last
                 hashed.update(raw)
                 size, count = size + len(raw), count + 1
         if head is None and os.path.getsize(path) > HEAD:
@@ -232,6 +257,60 @@ class LogFiles:
         except OSError:
             pass
         self.descriptor, self.before = None, found
+        self._pack_all([os.path.join(self.folder, "%06d.jsonl" % self.number)])
+
+    def _pack_all(self, paths: list[str]) -> None:
+        """Compresses files that are closed, in a thread of its own."""
+        if self.packer is not None:
+            for path in paths:
+                if not path.endswith(PACKED):
+                    self.packer.take(path)
+
+
+class Packer:
+    """Compresses closed files; each is there whole all the time, by one of its names."""
+
+    def __init__(self) -> None:
+        self.waiting: queue.SimpleQueue[Optional[str]] = queue.SimpleQueue()
+        self.thread: Optional[threading.Thread] = None
+
+    def take(self, path: str) -> None:
+        self.waiting.put(path)
+        if self.thread is None:
+            self.thread = threading.Thread(target=self._run, daemon=True)
+            self.thread.start()
+
+    def end(self) -> None:
+        """Waits a little until all are compressed; what is not then is so by the next recorder."""
+        if self.thread is not None:
+            self.waiting.put(None)
+            self.thread.join(PATIENCE)
+
+    def _run(self) -> None:
+        while (path := self.waiting.get()) is not None:
+            try:
+                pack(path)
+            except OSError as fault:
+                # The log is whole as it is.
+                sys.stderr.write("record: %s is not compressed: %s\n" % (path, fault.strerror))
+
+
+def pack(path: str) -> None:
+    """Puts a compressed file in the place of a file."""
+    folder, name = os.path.split(path)
+    part = os.path.join(folder, ".%s.part" % name.partition(".")[0])
+    try:
+        descriptor = os.open(part, os.O_CREAT | os.O_TRUNC | os.O_WRONLY, 0o600)
+        with open(path, "rb") as given, open(descriptor, "wb") as raw:
+            with gzip.GzipFile("", "wb", 6, raw, 0) as made:
+                shutil.copyfileobj(given, made, 1 << 20)
+            raw.flush()
+            os.fsync(raw.fileno())
+        os.replace(part, path + PACKED)
+        os.remove(path)
+    finally:
+        if os.path.exists(part):
+            os.remove(part)
 
 
 def _value_of(raw: bytes) -> Optional[dict[str, Any]]:
@@ -260,7 +339,7 @@ def _last_changes(paths: list[str], count: int) -> list[Known]:
         if len(found) >= count:
             break
         listed: deque[Known] = deque((), count)
-        with open(path, "rb") as file:
+        with opened(path) as file:
             for raw in file:
                 value = _value_of(raw) if raw.startswith(b'{"event":"write"') else None
                 if value is not None and not value.get("base"):
@@ -272,7 +351,7 @@ def _last_changes(paths: list[str], count: int) -> list[Known]:
 
 def _base_of(path: str) -> int:
     """The revision of the base state, which stands first in the first file."""
-    with open(path, "rb") as file:
+    with opened(path) as file:
         for raw in file:
             value = _value_of(raw) or {}
             if value.get("base"):

@@ -3,8 +3,8 @@ import marshal
 import socket
 import struct
 import time
-from collections import deque
-from typing import Any, Iterator, NamedTuple, Optional
+from collections import Counter, deque
+from typing import Any, BinaryIO, Iterator, NamedTuple, Optional
 
 SIZE = struct.Struct("<I")
 # Calls that decide, and are told when they begin; all others are told when they have ended.
@@ -64,7 +64,13 @@ class Bye(NamedTuple):
     at: int
 
 
-KINDS = (Started, Ended, Lost, Beat, Bye)
+class Key(NamedTuple):
+    """The key by which the changes are read from now on."""
+
+    text: str
+
+
+KINDS = (Started, Ended, Lost, Beat, Bye, Key)
 
 
 def packed(message: tuple[Any, ...]) -> bytes:
@@ -80,8 +86,12 @@ class Teller:
         self.waiting: deque[bytes] = deque()
         self.size = 0
         self.lost: Optional[Lost] = None
+        # the calls that had an answer, by their kinds
+        self.answered: Counter[str] = Counter()
 
     def tell(self, message: tuple[Any, ...]) -> None:
+        if isinstance(message, Ended):
+            self.answered[message.call] += 1
         if self._has_room():
             if self.lost is not None:
                 self._add(packed(self.lost))
@@ -148,9 +158,17 @@ class Teller:
 def messages_from(end: socket.socket) -> Iterator[tuple[Any, ...]]:
     """What the other side tells, until it is gone."""
     file = end.makefile("rb", 1 << 16)
-    while len(head := file.read(SIZE.size)) == SIZE.size:
-        data = file.read(SIZE.unpack(head)[0])
+    while len(head := _read(file, SIZE.size)) == SIZE.size:
+        data = _read(file, SIZE.unpack(head)[0])
         if len(data) < SIZE.unpack(head)[0]:
             return
         kind, *values = marshal.loads(data)
         yield KINDS[kind](*values)
+
+
+def _read(file: BinaryIO, size: int) -> bytes:
+    """So many bytes, or fewer where the other side is gone: in the midst of what was told it, that is a fault, and not an end."""
+    try:
+        return file.read(size)
+    except OSError:
+        return b""

@@ -22,7 +22,7 @@ from new_enemy_tools.importing.service import Answer, ServiceRules
 from new_enemy_tools.importing.times import nanoseconds
 from new_enemy_tools.recording.bearing import Bearing
 from new_enemy_tools.recording.core import Asked, Begun, Core, body_of
-from new_enemy_tools.recording.lines import TUPLES, base_lines, unmapped_line, write_line
+from new_enemy_tools.recording.lines import TUPLES, Came, base_lines, line, time_text, unmapped_line, write_line
 from new_enemy_tools.recording.log_files import Left, Place
 from new_enemy_tools.recording.messages import Ended, Started
 from new_enemy_tools.recording.overlap import Change, Read
@@ -41,6 +41,8 @@ RECENT = 20_000
 # So many changes of writes may wait until they are shown; and so many tuples may be in doubt, before all are.
 MADE = 40_000
 TAINTED = 1_000
+# Where no changes come, that is told so often.
+TOLD = 10 ** 9
 # A check waits so long for a write without an answer, which it may have seen.
 OPEN = 2 * 10 ** 9
 UNSHOWN = "a write was answered that the changes did not show within %g seconds"
@@ -110,8 +112,11 @@ class OpenFga:
     """`stale`, `hold` and `horizon` in nanoseconds: how long it may answer from its cache, how long a check waits, and how late the
     changes are shown at least, which is learnt where a write proves that it is more."""
 
-    def __init__(self, store: Optional[str], stale: int, hold: int, horizon: int = 0):
-        self.store, self.stale, self.hold, self.horizon = store, stale, hold, horizon
+    def __init__(self, store: Optional[str], stale: int, hold: int, horizon: int = 0, tells: bool = False):
+        """`tells` says whether the log has from when to when each change may have come, for checks that do not pass here."""
+        self.store, self.stale, self.hold, self.horizon, self.tells = store, stale, hold, horizon, tells
+        # until when all changes are in the log, as it was told last
+        self.told = 0
         self.takes, self.bearing = Takes(), Bearing()
         self.models: list[Model] = []
         self.muddled: list[tuple[int, int]] = []
@@ -161,10 +166,10 @@ class OpenFga:
         else:
             for change in base.changes:
                 self.places.add([Row(0, base.received, change)])
-                lines.append(self._line(change, self.places.revision))
+                lines.append(self._line(change, self.places.revision, self._came(None, base.received, core)))
             if left.place.rules != rules.hash:
                 self.places.add([Row(0, base.received)])
-                lines.append(ruled(base.rules, base.refusals, self.places.revision, False).data)
+                lines.append(ruled(base.rules, base.refusals, self.places.revision, False, self._came(None, base.received, core)).data)
         revision = self.places.revision
         self.models = [Model(rules.id or "", revision)]
         self.places = Places(revision, base.received)
@@ -177,7 +182,7 @@ class OpenFga:
 
     def _base_lines(self, rules: bytes, stored: Stored) -> Iterator[bytes]:
         """The rules and the base state, which may be long."""
-        yield rules + b"".join(map(_unread_line, stored.odd))
+        yield line("feed", store=self.store, changes=stored.count) + rules + b"".join(map(_unread_line, stored.odd))
         given = stored.items()
         some = list(islice(given, TUPLES))
         while True:
@@ -191,16 +196,21 @@ class OpenFga:
         self.takes.add(rules)
         self.bearing.add(rules)
 
-    def _line(self, change: Change, revision: int) -> bytes:
+    def _came(self, low: Optional[int], high: int, core: Core) -> Optional[Came]:
+        """From when to when something came, by the clock of the wall, where that is told."""
+        apart = core.now.wall - core.now.clock
+        return (None if low is None else low + apart, high + apart) if self.tells else None
+
+    def _line(self, change: Change, revision: int, came: Optional[Came] = None) -> bytes:
         """A change as the log has it."""
         change.revision = revision
         self.times.append(max(change.time, self.times[-1] if self.times else 0))
         self.stands.append(revision)
         if change.given is None:
-            return _unread_line(change) + write_line(revision, [], [])
+            return _unread_line(change) + write_line(revision, [], [], change.time, came)
         kept, unmapped = self.takes.sorted_out([(change.given, change.reason)])
         add, remove = (kept, []) if change.live else ([], kept)
-        return unmapped + write_line(revision, add, remove)
+        return unmapped + write_line(revision, add, remove, change.time, came)
 
     def _take_changes(self, message: Changes, core: Core) -> None:
         before = self.places.revision
@@ -222,6 +232,10 @@ class OpenFga:
         for listed in self.times, self.stands:
             del listed[:max(0, len(listed) - TIMES)]
         core.sequencer.reached = self.places.revision
+        if self.tells and (message.read.changes or message.rules or message.began - self.told > TOLD):
+            self.told = message.began
+            until = time_text(core.now.wall - (core.now.clock - message.began) - self.horizon)
+            core.put_commit(Commit(self.places.revision, line("read", until=until), message.received, changes=0))
         self._prove(message.began)
         self._give_up(message.received - self.hold, core)
         self._forget()
@@ -252,14 +266,14 @@ class OpenFga:
                 for key in made.keys:
                     if key is not None and not self._after(key, made.asked):
                         wanted.setdefault(key, deque()).append(made)
-        makers = []
+        makers: list[Optional[Made]] = []
         for change in changes:
             found = wanted.get((change.given, change.live)) if change.given is not None else None
             made = found.popleft() if found else None
             makers.append(made)
             if made is not None and self.began - self.horizon > made.answered:
                 self._learn(message.began - made.asked)
-        return makers
+        return _spread(changes, makers)
 
     def _learn(self, late: int) -> None:
         """A write that had its answer was not shown by a reading behind it, so the changes are shown late."""
@@ -273,7 +287,8 @@ class OpenFga:
         for row in rows:
             self.places.add([row])
             revision = self.places.revision
-            data = b"".join(self._line(change, revision) for change in row.changes)
+            came = self._came(row.low, row.high, core)
+            data = b"".join(self._line(change, revision, came) for change in row.changes)
             commit = Commit(revision, data, message.received, changes=len(row.changes))
             if row is rows[-1]:
                 apart = tuple(sorted(one.revision for one in message.read.apart))
@@ -292,7 +307,7 @@ class OpenFga:
     def _take_rules(self, rules: Optional[ServiceRules], refusals: Refusals, message: Changes, core: Core) -> None:
         revision = self.places.revision
         try:
-            found = ruled(rules, refusals, revision + 1, False)
+            found = ruled(rules, refusals, revision + 1, False, self._came(self.began, message.received, core))
         except Unread as fault:
             core.say("a new model can't be read: %s" % fault)
             core.lose("a model that can't be read", 0)
@@ -473,8 +488,13 @@ class OpenFga:
         else:
             values["snapshot"] = low
             values["token"] = low if one.newest and one.token is None else one.token
-        # A content check stands before all that it may not have seen.
-        core.put_entries(one.message, one.answers, window.low if one.message.save is not None else self.places.revision, **values)
+        # A content check stands before all that it may not have seen, and behind all that was known.
+        place = self._known_last(one, window) if one.message.save is not None else self.places.revision
+        core.put_entries(one.message, one.answers, place, **values)
+
+    def _known_last(self, one: Waiting, window: Window) -> int:
+        """The last change that was known when a check began; before it there may be others that were not."""
+        return self.places.surely(window, one.since, lambda row: True)
 
     def _span(self, one: Waiting, window: Window) -> Union[str, Window]:
         """From where to where in a window a check may have looked; or why that can't be said."""
@@ -489,7 +509,10 @@ class OpenFga:
         if self.places.is_unsure(window, lambda row: True) and any(self._is_unsure(window, goal) for goal in goals):
             return UNORDERED
         low = min(self.places.surely(window, one.since, partial(self._bears, goal)) for goal in goals)
-        return self._of_model(one, Window(low, window.high))
+        least = self._known_last(one, window) if one.message.save is not None else low
+        if any(self.places.has_unknown(Window(low, least), one.since, partial(self._bears, goal)) for goal in goals):
+            return UNORDERED
+        return self._of_model(one, Window(max(low, least), window.high))
 
     def _is_unsure(self, window: Window, goal: Relationship) -> bool:
         return self.places.is_unsure(window, partial(self._bears, goal))
@@ -506,6 +529,18 @@ class OpenFga:
             if start <= end and model.id == one.model:
                 return Window(start, end)
         return window if one.model is None else "a check by another model than the latest"
+
+
+def _spread(changes: list[Change], makers: list[Optional[Made]]) -> list[Optional[Made]]:
+    """The makers, also of changes that stand beside one of the same write with its time."""
+    found, last = list(makers), len(changes) - 1
+    for places, step in (range(1, last + 1), -1), (range(last - 1, -1, -1), 1):
+        for place in places:
+            change, beside, made = changes[place], changes[place + step], found[place + step]
+            follows = change.follows if step < 0 else beside.follows
+            if found[place] is None and made is not None and follows and change.time == beside.time and (change.given, change.live) in made.keys:
+                found[place] = made
+    return found
 
 
 def _writes(changes: list[Change], makers: list[Optional[Made]]) -> list[list[int]]:

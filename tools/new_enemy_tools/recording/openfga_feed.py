@@ -26,7 +26,7 @@ LESS = 100
 class OpenFgaFeed:
     def __init__(self, settings: Settings):
         self.settings = settings
-        self.asker = Asker(settings.url, settings.key)
+        self.asker = Asker(settings.url, settings.key, settings.ca)
         self.store = settings.store
         self.overlap: Optional[Overlap] = None
         self.model_data = b""
@@ -44,6 +44,9 @@ class OpenFgaFeed:
             elif less >= LESS:
                 raise FeedFault("the changes do not show any more what they showed before")
             time.sleep(self.settings.poll)
+
+    def use_key(self, key: str) -> None:
+        self.asker.use_key(key)
 
     def _begin(self, left: Optional[Left], put: Callable[[Any], None]) -> None:
         self.store = self.store or self._only_store()

@@ -35,7 +35,8 @@ class Window(NamedTuple):
 
 
 class Places:
-    def __init__(self, revision: int = 0, high: int = 0) -> None:
+    def __init__(self, revision: int = 0, high: int = 0, kept: int = KEPT) -> None:
+        self.kept = kept
         # the revision before the first row, and when all up to it had come; and from when on it is remembered what came
         self.before, self.high, self.oldest = revision, high, 0
         self.rows: list[Row] = []
@@ -53,8 +54,8 @@ class Places:
         for row in rows:
             self.rows.append(row)
             self.ends.append(max(row.high, self.ends[-1] if self.ends else self.high))
-        if len(self.rows) > KEPT:
-            cut = KEPT // 2
+        if len(self.rows) > self.kept:
+            cut = self.kept // 2
             self.before, self.high = self.before + cut, self.ends[cut - 1]
             self.oldest = self.high
             del self.rows[:cut], self.ends[:cut]
@@ -86,6 +87,10 @@ class Places:
             if self.rows[place - 1].high <= began and bears(self.rows[place - 1]):
                 return self.before + place
         return window.low
+
+    def has_unknown(self, window: Window, clock: int, bears: Callable[[Row], bool]) -> bool:
+        """Whether a commit of a window bears on a question that had not surely come at a time."""
+        return any(row.high > clock and bears(row) for row in self.rows[window.low - self.before:window.high - self.before])
 
     def is_unsure(self, window: Window, bears: Callable[[Row], bool]) -> bool:
         """Whether two commits in a window bear on a question and may have come the other way round.

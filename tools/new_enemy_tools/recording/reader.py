@@ -195,7 +195,7 @@ class Reader:
     # Messages
 
     def _request(self, head: Head) -> Optional[int]:
-        if len(head.words) < 3 or not head.words[2].startswith("HTTP/1."):
+        if not head.is_request:
             raise Strange("a request that is no HTTP/1.1")
         path = path_of(head.words[1])
         exchange = Exchange(self.call_of(head.words[0], path), head, path)

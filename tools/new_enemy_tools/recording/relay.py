@@ -7,6 +7,7 @@ from urllib.parse import SplitResult
 
 from new_enemy_tools.recording.messages import Teller
 from new_enemy_tools.recording.reader import Call, Reader
+from new_enemy_tools.recording.secured import context_of
 
 # A client is read no further while so much of what it sent can't go on.
 ROOM = 2 << 20
@@ -83,12 +84,12 @@ class Side(asyncio.Protocol):
 class Relay:
     """`most` is how many clients there may be at once; more are refused."""
 
-    def __init__(self, url: SplitResult, teller: Teller, call_of: Call, most: int = 1 << 30):
+    def __init__(self, url: SplitResult, teller: Teller, call_of: Call, most: int = 1 << 30, ca: Optional[str] = None):
         self.most, self.refused = most, 0
         self.host, self.secure = url.hostname or "", url.scheme == "https"
         self.port = url.port or (443 if self.secure else 80)
         self.teller, self.call_of = teller, call_of
-        self.context = ssl.create_default_context() if self.secure else None
+        self.context = context_of(ca) if self.secure else None
         self.server: Any = None
         self.tasks: set[asyncio.Task[Any]] = set()
         self.open: set[Client] = set()
@@ -97,11 +98,15 @@ class Relay:
         """Whether some request has no answer yet."""
         return any(client.reader.exchanges for client in self.open)
 
+    def connections(self) -> int:
+        return len(self.open)
+
     def client(self) -> "Client":
         return Client(self)
 
-    async def serve(self, host: str, port: int) -> None:
-        self.server = await asyncio.get_running_loop().create_server(self.client, host, port, backlog=1024)
+    async def serve(self, host: str, port: int, shown: Optional[ssl.SSLContext] = None, is_shared: bool = False) -> None:
+        """Listens, with TLS where something is shown to clients; other processes may listen at the port too where it is shared."""
+        self.server = await asyncio.get_running_loop().create_server(self.client, host, port, backlog=1024, ssl=shown, reuse_port=is_shared)
 
     def stop(self) -> None:
         """Takes no more connections."""

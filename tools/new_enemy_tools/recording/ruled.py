@@ -4,7 +4,7 @@ from typing import Iterable, NamedTuple, Optional
 from new_enemy_tools.importing.events import Relationship
 from new_enemy_tools.importing.refusals import Refusals
 from new_enemy_tools.importing.service import ServiceRules
-from new_enemy_tools.recording.lines import hash_of_rules, rules_line, unmapped_line
+from new_enemy_tools.recording.lines import Came, hash_of_rules, rules_line, unmapped_line
 
 
 class Unread(Exception):
@@ -26,13 +26,13 @@ class Ruled(NamedTuple):
     rules: ServiceRules
 
 
-def ruled(rules: Optional[ServiceRules], refusals: Refusals, revision: int, is_first: bool) -> Ruled:
+def ruled(rules: Optional[ServiceRules], refusals: Refusals, revision: int, is_first: bool, came: Optional[Came] = None) -> Ruled:
     """Raises Unread, where the reader of the rules refused them."""
     refuse_unread(rules, refusals)
     assert rules is not None
     reasons = ", ".join(refusals.left_out) or "rule without a form"
     left_out = b"".join(unmapped_line(reasons, userset=doubt) for doubt in refusals.doubts)
-    return Ruled(revision, rules.id, hash_of_rules(rules), rules_line(rules, None if is_first else revision) + left_out, rules)
+    return Ruled(revision, rules.id, hash_of_rules(rules), rules_line(rules, None if is_first else revision, rules.id, came) + left_out, rules)
 
 
 class Takes:

@@ -51,6 +51,9 @@ class Source(Protocol):
     def relationships(self, of: str, token: str) -> Iterable[dict[str, Any]]:
         """All of a type, at the moment of a token."""
 
+    def use_key(self, key: str) -> None:
+        """Takes another key for what is asked from now on."""
+
     def watch(self, token: str) -> Iterable[dict[str, Any]]:
         """The responses of Watch behind a token, until the stream ends."""
 
@@ -145,6 +148,9 @@ class Feed:
                 time.sleep(AGAIN)
         except (Bad, Unread) as fault:
             raise FeedFault(str(fault)) from None
+
+    def use_key(self, key: str) -> None:
+        self.source.use_key(key)
 
     def _base(self, left: Optional[Left]) -> Base:
         text, token = self.source.schema()
@@ -312,17 +318,18 @@ class SpiceDb:
         elif message.updates:
             insort(self.commits, revision)
             del self.commits[:max(0, len(self.commits) - COMMITS)]
-            core.put_commit(self._commit(message, revision))
+            core.put_commit(self._commit(message, revision, core.now.wall - (core.now.clock - message.received)))
         else:
             self._checkpoint(message, revision, core)
 
-    def _commit(self, message: Watched, revision: int) -> Commit:
+    def _commit(self, message: Watched, revision: int, came: int) -> Commit:
+        """The changes of a response, and when it came, by the wall clock."""
         sides = []
         for live in (True, False):
             kept, unmapped = self.takes.sorted_out((one.given, one.reason) for one in message.updates if one.live == live)
             sides.append((kept, unmapped))
         (add, first), (remove, second) = sides
-        return Commit(revision, first + second + write_line(revision, add, remove), message.received, message.token)
+        return Commit(revision, first + second + write_line(revision, add, remove, came), message.received, message.token)
 
     def _checkpoint(self, message: Watched, revision: int, core: Core) -> None:
         """All changes up to here are known; now and then that is written, so that a later recorder goes on from there."""

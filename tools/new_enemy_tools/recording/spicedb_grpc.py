@@ -22,6 +22,9 @@ class GrpcSource:
             grpc.insecure_channel(target, OPTIONS)
         self.metadata = [("authorization", "Bearer " + key)] if key else []
 
+    def use_key(self, key: str) -> None:
+        self.metadata = [("authorization", "Bearer " + key)]
+
     def _asked(self, path: str, name: str, body: dict[str, Any], timeout: Optional[float]) -> Iterator[dict[str, Any]]:
         """The answers of a call, as JSON; raises FeedFault."""
         call = self.channel.unary_stream(path)

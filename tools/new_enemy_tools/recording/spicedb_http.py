@@ -10,8 +10,11 @@ QUIET = 60.0
 
 
 class HttpSource:
-    def __init__(self, url: str, key: Optional[str]):
-        self.asker = Asker(url, key)
+    def __init__(self, url: str, key: Optional[str], ca: Optional[str] = None):
+        self.asker = Asker(url, key, ca)
+
+    def use_key(self, key: str) -> None:
+        self.asker.use_key(key)
 
     def schema(self) -> tuple[str, str]:
         answer = self.asker.ask("POST", "/v1/schema/read", {})

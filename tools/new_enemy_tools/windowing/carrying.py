@@ -169,12 +169,12 @@ def _versions(window: Window, held: set[int], kept: Optional[int]) -> tuple[list
     waited = [Row("v", row.line, row.number, row.raw) for row in old.rows if row.kind == "h" and held_of(row).issues]
     issued = [row for row in old.rows if row.kind == "v"] + waited + window.issued
     # A check that waits names its version when it is told.
-    named = {_version_of(one.row.raw) for one in window.held if one.row.line in held} if kept is not None else set()
-    found = [row for row in issued if kept is None or row.number > window.number - kept or named and _version_of(row.raw) in named]
+    named = {version_of(one.row.raw) for one in window.held if one.row.line in held} if kept is not None else set()
+    found = [row for row in issued if kept is None or row.number > window.number - kept or named and version_of(row.raw) in named]
     return [row for row in found if row.line not in held], old.head.has_dropped or len(found) < len(issued)
 
 
-def _version_of(raw: bytes) -> tuple[object, object]:
+def version_of(raw: bytes) -> tuple[object, object]:
     """The object and the version that an entry names or issues."""
     value = strictjson.object_of(raw)
     return str(value.get("goal")).rpartition("#")[0], value.get("version")

@@ -9,17 +9,25 @@ import os
 import re
 import shutil
 from hashlib import blake2b
-from typing import Any, BinaryIO, NamedTuple, Optional
+from typing import Any, BinaryIO, Iterator, NamedTuple, Optional, Sequence
 
+from new_enemy_tools.looked import Looked
 from new_enemy_tools.windowing.faults import WindowFault
 from new_enemy_tools.windowing.state import Head, read_sum
 
 WORK = "work"
 INDEX, PAGE = "index.html", "report.html"
+# What a run writes out, a line for each group of findings.
+MAIL = "mail.txt"
+# So many days before are told beside a day.
+COMPARED = 3
 DAY = re.compile("day[0-9]{6,}")
 PIECE = 1 << 20
 # What a day goes on from; the last two days have it.
 GOING_ON = ("state", "left", "ids.jsonl")
+TRACES = ("trace.zst", "trace.gz", "lines.json")
+# What names nobody.
+STAYS = ("summary.json", "told")
 KEPT = 2
 
 
@@ -100,12 +108,25 @@ class Days:
         self.numbers.append(number)
         return number
 
-    def tidy(self) -> None:
-        """Takes away what older days went on from."""
-        for number in self.numbers[:-KEPT]:
-            for name in GOING_ON:
+    def tidy(self, traces: int) -> None:
+        """Takes away what older days went on from, and the traces of all but so many days."""
+        for names, count in ((GOING_ON, KEPT), (TRACES, traces)):
+            self._take_away(names, count)
+
+    def _take_away(self, names: Sequence[str], count: int) -> None:
+        """Files of all but the last so many days."""
+        for number in self.numbers[:max(0, len(self.numbers) - count)]:
+            for name in names:
                 if os.path.exists(self.path(number, name)):
                     os.remove(self.path(number, name))
+
+    def forget(self, count: int) -> None:
+        """Takes away what names users of all but the last so many days, and what was asked; what the next day goes on from stays."""
+        for number in self.numbers[:max(0, len(self.numbers) - count)]:
+            folder = os.path.dirname(self.path(number, "summary.json"))
+            for name in os.listdir(folder):
+                if name not in STAYS and name not in GOING_ON:
+                    os.remove(os.path.join(folder, name))
 
     def summary(self, number: int) -> Summary:
         with open(self.path(number, "summary.json"), encoding="utf-8") as file:
@@ -120,7 +141,9 @@ class Days:
 
     def tell(self, number: int) -> str:
         """The report of a day, as it is written out."""
-        with open(self.path(number, "report.txt"), encoding="utf-8") as file:
+        # Days of an earlier version have the report alone.
+        path = next(path for path in (self.path(number, name) for name in (MAIL, "report.txt")) if os.path.exists(path))
+        with open(path, encoding="utf-8") as file:
             return file.read()
 
     def mark_told(self, number: int) -> None:
@@ -130,6 +153,26 @@ class Days:
     def day_of(self, digest: str) -> Optional[int]:
         """The day of logs with a checksum."""
         return next((number for number in reversed(self.numbers) if self.summary(number).digest == digest), None)
+
+
+def compared(looked: Looked, before: list[tuple[int, dict[str, int]]]) -> Iterator[str]:
+    """How many checks of a day name a version and carry a token, beside the days before it with checks; a release that dropped the header,
+    or the token, is seen by it."""
+    known = [(number, of) for number, of in ((number, looked_of(one)) for number, one in before) if of is not None and of.checks]
+    if not known or not looked.checks:
+        return
+    for words, count in (("name a content version", Looked.naming), ("carry a token", Looked.carrying)):
+        now, shares = count(looked) / looked.checks, [count(of) / of.checks for _, of in known]
+        if not any(shares):
+            continue
+        less = "; that is less than half of each day before" if now < min(shares) / 2 else ""
+        yield "checks that %s: %d of %d; before: %s%s" % (words, count(looked), looked.checks, ", ".join(
+            "%d of %d (day %d)" % (count(of), of.checks, number) for number, of in known), less)
+
+
+def looked_of(given: dict[str, int]) -> Optional[Looked]:
+    """What a summary says; None of a day of an earlier version."""
+    return Looked(**given) if given else None
 
 
 def _to_disk(path: str) -> None:

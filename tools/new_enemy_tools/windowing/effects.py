@@ -1,17 +1,18 @@
 """The findings of a window with their effects, as `ne report` tells them; lines are those of the log."""
 from typing import NamedTuple, Optional
 
-from new_enemy_tools.audited import CHECK, COMMIT, CONTENT, NAMESPACE, AuditedTrace, Numbered, refuse_other_keys
+from new_enemy_tools.audited import AuditedTrace, Numbered
 from new_enemy_tools.faults import ToolFault
 from new_enemy_tools.findings import ON_TOKENS, Report
-from new_enemy_tools.forms import FORMS
+from new_enemy_tools.forms import FORMS, group_lines
 from new_enemy_tools.ids import Ids
 from new_enemy_tools.looked import Looked, looked_in
 from new_enemy_tools.names import Names
 from new_enemy_tools.parting.blocks import Blocks
-from new_enemy_tools.quick import OtherForm
 from new_enemy_tools.telling import Telling, telling_of, told_of
-from new_enemy_tools.trace import Trace
+from new_enemy_tools.trace import Trace, read_lines
+from new_enemy_tools.trace_lines import (CHECK_START as CHECK, COMMIT_START as COMMIT, CONTENT_START as CONTENT, NAMESPACE_START as NAMESPACE, OtherForm,
+                                         may_issue, refuse_other_keys)
 from new_enemy_tools.windowing.reading import Own, lines_of
 from new_enemy_tools.windowing.run import Audited
 from new_enemy_tools.windowing.state import Row
@@ -39,22 +40,18 @@ class Lines(NamedTuple):
         return trace
 
     def in_full(self) -> Trace:
-        trace = Trace()
-        for line, raw in sorted({line for lines in self for line in lines}):
-            if not trace.take_quickly(line, raw):
-                trace.take(line, raw)
-        return trace
+        return read_lines(sorted({line for lines in self for line in lines}))
 
 
 def lines_for(found: Audited, own: Own, has_stories: bool = False) -> Lines:
-    """Of a window that was audited. It keeps the entries that have findings and, where some of these are on tokens, or for stories, the
+    """Of a window that was audited. It keeps the entries that have findings and, where commits tell something of these, or for stories, the
     store, the commits and the versions."""
     carried, window, findings = found.carried, found.window, found.told.findings
     wanted = sorted(lines_of(own, window.old, {one.line for one in findings}).items())
     rules = _lines(carried, "r", window.rules)
-    if not has_stories and not any(one.finding in ON_TOKENS for one in findings):
+    if not has_stories and not any(one.finding in ON_TOKENS or one.finding == "F10" for one in findings):
         return Lines(rules, [], [], wanted)
-    issued = _lines(carried, "v", window.issued) + [one for one in _lines(carried, "h", []) if b'"content"' in one[1] and b'"version"' in one[1]]
+    issued = _lines(carried, "v", window.issued) + [one for one in _lines(carried, "h", []) if may_issue(one[1])]
     return Lines(rules, _lines(carried, "fc", window.commits), sorted(issued), wanted)
 
 
@@ -71,13 +68,22 @@ def looked_at(found: Audited, own: Own) -> Looked:
     return looked.plus(looked_in(b"\n".join([row.raw for row in found.carry.rows if row.kind == "h"])), -1)
 
 
-def json_rows(found: Audited, own: Own, ids: Optional[Ids]) -> list[str]:
-    """The report of a window as rows of JSON."""
+class Texts(NamedTuple):
+    """The findings of a window as rows of JSON, and for people as a line for each group behind one of sums."""
+
+    rows: list[str]
+    groups: list[str]
+
+
+def texts_of(found: Audited, own: Own, ids: Optional[Ids]) -> Texts:
+    """Nothing where nothing was found."""
+    if not found.told.findings:
+        return Texts([], [])
     lines = lines_for(found, own)
     try:
-        return _rows(lines.quickly(), found, own, ids)
+        return _texts(lines.quickly(), found, own, ids)
     except (OtherForm, ToolFault):
-        return _rows(lines.in_full(), found, own, ids)
+        return _texts(lines.in_full(), found, own, ids)
 
 
 def telling_in_full(found: Audited, own: Own, ids: Optional[Ids]) -> Telling:
@@ -92,5 +98,6 @@ def _telling(trace: Trace, found: Audited, own: Own, ids: Optional[Ids]) -> Tell
     return telling._replace(report=report._replace(entries=told.entries))
 
 
-def _rows(trace: Trace, found: Audited, own: Own, ids: Optional[Ids]) -> list[str]:
-    return list(FORMS["jsonl"](_telling(trace, found, own, ids)))
+def _texts(trace: Trace, found: Audited, own: Own, ids: Optional[Ids]) -> Texts:
+    telling = _telling(trace, found, own, ids)
+    return Texts(list(FORMS["jsonl"](telling)), [telling.said, *group_lines(telling)])

@@ -2,9 +2,9 @@
 from typing import Iterator, Optional
 
 from new_enemy_tools.ids import Ids
-from new_enemy_tools.page import VERDICTS, asset, head, write_pages
+from new_enemy_tools.page import VERDICTS, asset, color_of, head, write_pages
 from new_enemy_tools.shown import markup
-from new_enemy_tools.windowing.days import Days, Summary
+from new_enemy_tools.windowing.days import Days, Summary, looked_of
 from new_enemy_tools.windowing.effects import telling_in_full
 from new_enemy_tools.windowing.reading import Own
 from new_enemy_tools.windowing.run import Audited
@@ -29,10 +29,13 @@ def index(days: Days) -> Iterator[str]:
 
 def _cells(days: Days, number: int, summary: Summary) -> Iterator[str]:
     covered, verdict = summary.coverage, summary.verdict or ("dirty" if summary.findings else "clean")
+    checks = covered.get("checks", summary.entries)
+    if verdict == "clean" and not checks:
+        verdict = "empty"
     yield '<a href="%s">%d</a>' % (days.page(number), number) if days.page(number) else str(number)
     yield from (markup(str(covered.get(key, ""))) for key in ("from", "to"))
-    yield '<span class="verdict %s">%s</span>' % (verdict, VERDICTS[verdict].partition(":")[0])
-    yield from map(str, (summary.findings, covered.get("checks", summary.entries)))
+    yield '<span class="verdict %s">%s</span>' % (color_of(verdict, looked_of(summary.looked)), VERDICTS[verdict].partition(":")[0])
+    yield from map(str, (summary.findings, checks))
     yield from (str(sum(sum(covered.get(key, {}).values()) for key in keys)) for keys in (("in_part", "not_audited"), ("lost",)))
     yield from (str(summary.looked.get(key, "")) for key in ("with_version", "with_token"))
     yield markup(", ".join(summary.logs))

@@ -4,7 +4,7 @@ import os
 from functools import partial
 from typing import BinaryIO, Callable, Iterable, Iterator, Optional
 
-from new_enemy_tools import limits, strictjson
+from new_enemy_tools import limits, strictjson, trace_lines
 from new_enemy_tools.parting.blocks import Blocks
 from new_enemy_tools.parting.sharing import shared
 from new_enemy_tools.pieces import START
@@ -62,15 +62,7 @@ class Own:
 
 def strata_in(line: bytes) -> dict[tuple[str, str], int]:
     """The strata of relations, where the first line of a window says that they are others than in the days before."""
-    if b'"strata"' not in line:
-        return {}
-    try:
-        given = strictjson.object_of(line).get("strata")
-    except (strictjson.NotJson, AssertionError):
-        return {}
-    if not isinstance(given, list) or not all(isinstance(one, list) and list(map(type, one)) == [str, str, int] for one in given):
-        return {}
-    return {(name, relation): stratum for name, relation, stratum in given}
+    return {(name, relation): stratum for name, relation, stratum in trace_lines.strata_in(line)}
 
 
 def with_strata(old: State, strata: dict[tuple[str, str], int]) -> State:

@@ -5,23 +5,23 @@ from typing import BinaryIO, Iterator, Optional
 from new_enemy_tools import limits, strictjson
 from new_enemy_tools.parting.blocks import Blocks
 from new_enemy_tools.parting.placing import line_of
+from new_enemy_tools.trace_lines import RECORD_START
 from new_enemy_tools.windowing.reading import Numbers
 from new_enemy_tools.windowing.state import Row
 
-START = b'{"line":'
 
 
 def _renamed(raw: bytes, line: int, given: int) -> bytes:
     """A record that names one line, as one that names another."""
-    start = START + b"%d," % line
+    start = RECORD_START + b"%d," % line
     if raw.startswith(start) and raw.count(b'"line"') == 1 and b"\\" not in raw:
-        return START + b"%d," % given + raw[len(start):]
+        return RECORD_START + b"%d," % given + raw[len(start):]
     return json.dumps({**strictjson.object_of(raw), "line": given}, ensure_ascii=False, separators=(",", ":")).encode()
 
 
 def _line_named(raw: bytes) -> Optional[int]:
-    if raw.startswith(START):
-        text = raw[len(START):raw.find(b",", 0, len(START) + 20)]
+    if raw.startswith(RECORD_START):
+        text = raw[len(RECORD_START):raw.find(b",", 0, len(RECORD_START) + 20)]
         if text.isdigit() and text[:1] != b"0" and raw.count(b'"line"') == 1 and b"\\" not in raw:
             return int(text)
     return line_of(raw) if raw.strip(strictjson.BLANK) else None

@@ -9,7 +9,7 @@ from bisect import bisect_left
 from typing import Iterator, NamedTuple, Optional
 
 from new_enemy_tools import limits, strictjson
-from new_enemy_tools.quick import Pair, quick_commit, quick_touch
+from new_enemy_tools.trace_lines import Pair, quick_commit, quick_touch
 from new_enemy_tools.windowing.state import Row
 
 LINE = b'{"kind":"commit","at":%d,"add":[%s]}'

@@ -5,9 +5,10 @@ from functools import partial
 from typing import Callable, NamedTuple, Optional
 
 from new_enemy_tools import limits
-from new_enemy_tools.coverage import NO_LINES, Coverage, coverage_of, is_imported, lines_in, marks_in
+from new_enemy_tools.coverage import NO_LINES, Coverage, coverage_of, lines_in, marks_in
 from new_enemy_tools.parting.blocks import Blocks
 from new_enemy_tools.parting.merging import Answer
+from new_enemy_tools.trace_lines import is_imported
 from new_enemy_tools.windowing.auditing import FileFeeder, How, Running, answer_in_parts
 from new_enemy_tools.windowing.carrying import Carry, Keep, Window, carried
 from new_enemy_tools.windowing.faults import WindowFault
@@ -37,15 +38,17 @@ class Audited(NamedTuple):
 
     def covered(self, own: Own, said: Optional[Coverage] = None) -> "Audited":
         """With the sum of what was looked at: of the window's own lines, as their import says or said, and of entries that waited."""
-        lines, marks, is_first = NO_LINES, [], True
+        lines = NO_LINES
+        marks: list[Coverage] = []
+        with own.open() as file:
+            is_ours = is_imported(file.readline(limits.LINE_BYTES + 1))
         with own.open() as file:
             for block in Blocks(file):
                 lines, marks = lines.plus(lines_in(block)), marks + marks_in(block)
-                is_first = is_first and is_imported(block)
         if own.start and marks:
             # The sum of the whole log says nothing of these lines alone; what it left out counts here again.
             marks = [marks[-1]._replace(checks=lines.checks)]
-        found = coverage_of(lines, marks if said is None else [said], is_first and lines.checks > 0 and not own.start)
+        found = coverage_of(lines, marks if said is None else [said], is_ours and lines.checks > 0 and not own.start)
         waiting = [lines_in(b"\n".join([row.raw for row in rows if row.kind == "h"])) for rows in (self.carried, self.carry.rows)]
         lines = lines.plus(waiting[0]).plus(waiting[1], -1)
         return self._replace(told=self.told.covered(found._replace(checks=lines.checks, in_part=dict(lines.in_part))))

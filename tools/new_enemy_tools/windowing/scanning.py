@@ -6,17 +6,8 @@ show at once what it is; of a repeated key the last counts. What a line says bey
 from typing import NamedTuple, Optional
 
 from new_enemy_tools import strictjson
-from new_enemy_tools.parting.placing import compiled
-from new_enemy_tools.trace import is_u64, is_utf8
-
-_NUMBER = rb"(?:0|[1-9][0-9]{0,18}+)"
-_GOAL = rb'"[a-z][a-z0-9_]*+:[^"\\#@\x00-\x20]++#[a-z][a-z0-9_]*+@' + _NUMBER + rb'"'
-_MEMBERS = rb'(?:, ?(?:"(?:zookie|version|revision|from|time|part|named)": ?"[^"\\\x00-\x1f]*+"|"again": ?true))*+\}[ \t\r]*+\n'
-_ENTRY = rb'\{"kind": ?"%s", ?"goal": ?' + _GOAL + rb', ?"snapshot": ?(' + _NUMBER + rb'), ?"reply": ?%s' + _MEMBERS
-# Each match is a line: a check with its snapshot in the first group, or any other in the second.
-LINES = compiled(_ENTRY % (b"check", b"(?:true|false)") + rb"|([^\n]*+\n)")
-CONTENT = compiled(_ENTRY % (b"content", b"(true|false)"))
-COMMIT = compiled(rb'\{"kind": ?"commit", ?"at": ?(' + _NUMBER + rb")[,}]")
+from new_enemy_tools.trace import is_u64
+from new_enemy_tools.trace_lines import SNAPSHOTS, commit_at, content_at, is_utf8
 
 # Of a line the number within its block, from 0, the timestamp or snapshot, and the bytes.
 Found = tuple[int, int, bytes]
@@ -57,14 +48,14 @@ class _Scanner:
                 self.bad = number, why
 
     def _takes_quickly(self, number: int, line: bytes) -> bool:
-        found = COMMIT.match(line)
-        if found and b"\\" not in line and line.count(b'"at"') == 1 and line.count(b'"kind"') == 1:
-            self.commits.append((number, int(found[1]), line[:-1]))
+        at = commit_at(line)
+        if at is not None:
+            self.commits.append((number, at, line[:-1]))
             return True
-        found = CONTENT.fullmatch(line)
-        if found:
-            self._entry(number, int(found[1]), line[:-1], found[2] == b"true")
-        return found is not None
+        content = content_at(line)
+        if content is not None:
+            self._entry(number, content[0], line[:-1], content[1])
+        return content is not None
 
     def _entry(self, number: int, snapshot: int, raw: bytes, issues: bool) -> None:
         self.entries[number] = snapshot
@@ -96,7 +87,7 @@ class _Scanner:
 
 def scan(base: Optional[int], last: int, block: bytes) -> Scanned:
     """Looks at whole lines of a window that begins at a base, behind commits up to another timestamp (-1 where there are none)."""
-    found, scanner = LINES.findall(block), _Scanner()
+    found, scanner = SNAPSHOTS.findall(block), _Scanner()
     for number, (snapshot, other) in enumerate(found):
         if not snapshot:
             scanner.take(number, other)

@@ -1,7 +1,7 @@
 """What is told of a window: the findings on its entries, by the lines of the log."""
 import re
 from collections import Counter
-from typing import Callable, Iterator, NamedTuple
+from typing import Callable, Iterable, Iterator, NamedTuple, Optional
 
 from new_enemy_tools.coverage import INCOMPLETE, Coverage
 from new_enemy_tools.findings import Finding, read_report
@@ -45,9 +45,12 @@ class Told(NamedTuple):
         """1 where something was found, else 6 where more than so many percent of the checks were not looked at whole."""
         return 1 if self.findings else self.coverage.status(allowed)
 
-    def lines(self, behind: Callable[[int], str] = lambda line: "") -> Iterator[str]:
-        """As the program's report, with what is told behind the text of a line."""
-        told = [(one.line, text_of(one)) for one in self.findings]
+    def lines(self, behind: Callable[[int], str] = lambda line: "", groups: Optional[Iterable[str]] = None,
+              beside: Iterable[str] = ()) -> Iterator[str]:
+        """As the program's report, with what is told behind the text of a line; the findings may be told by other lines, and the sums have
+        others beside them."""
+        yield from groups or ()
+        told = [(one.line, text_of(one)) for one in self.findings] if groups is None else []
         told += [(line, "line %d: not audited, %s" % (line, left.text)) for line, left in self.not_audited.items()]
         told += [(line, "line %d: audited in part, %s" % (line, left.text)) for line, left in self.in_part.items()]
         for line, text in sorted(told, key=lambda one: one[0]):
@@ -56,6 +59,7 @@ class Told(NamedTuple):
         if self.held:
             yield "held over %d" % self.held
         yield from () if self.coverage.is_plain else self.coverage.lines()
+        yield from beside
         yield "findings %d" % len(self.findings)
         yield "verdict %s" % self.verdict
 

@@ -1,0 +1,129 @@
+"""Joins the logs of several recorders of one service into one: ne join --out FOLDER LOG ..
+
+Each LOG is the folder of a recorder's log, with all its files; or, beside a log of `ne record --changes-only`, a file of events of an
+application. FOLDER is new, and has a log that `ne import events` reads as that of one
+recorder (docs/RECORDING.md). Where anything is refused nothing is written, and the status is 2.
+"""
+import json
+import os
+import shutil
+from argparse import Namespace
+from functools import partial
+from typing import Iterator
+
+from new_enemy_tools.commands.running import Parser
+from new_enemy_tools.faults import DeviceFault
+from new_enemy_tools.importing.chained import end_of, in_chain
+from new_enemy_tools.importing.events import read_events
+from new_enemy_tools.importing.opened import opened
+from new_enemy_tools.importing.refusals import Refusals
+from new_enemy_tools.recording.joining import Join
+from new_enemy_tools.recording.lines import ENCODE
+from new_enemy_tools.recording.log_files import NAME, LogFault, LogFiles
+from new_enemy_tools.recording.sketches import JOINED, Given, JoinFault, Row
+
+# So many lines are written at once.
+LINES = 1000
+# More than a file has.
+MOST = 1 << 62
+
+
+def given_of(words: list[str]) -> Namespace:
+    parser = Parser(prog="ne join", description=__doc__)
+    parser.add_argument("--out", required=True, metavar="FOLDER", help="the folder of the joined log, which is made")
+    parser.add_argument("--skew", type=int, default=1000, metavar="MS", help="by how many milliseconds the clocks of the recorders' machines may "
+                        "be apart (1000)")
+    parser.add_argument("--stale-by", type=float, default=0.0, metavar="SECONDS", help="how long OpenFGA may answer from its cache, for events of "
+                        "applications (0)")
+    parser.add_argument("logs", nargs="+", metavar="LOG", help="the folder of a recorder's log, or a file of an application's events")
+    given = parser.parse_args(words)
+    if given.skew < 0 or given.stale_by < 0:
+        parser.error("--skew or --stale-by is below 0")
+    if len(set(map(os.path.realpath, given.logs))) < len(given.logs):
+        parser.error("one LOG stands twice")
+    return given
+
+
+class Refused(JoinFault):
+    """Lines or files of a log are refused; each is a detail."""
+
+    def __init__(self, folder: str, refusals: Refusals):
+        super().__init__("%s can't be joined" % folder)
+        self.details = refusals.lines()
+
+
+def log_of(folder: str) -> Given:
+    """A recorder's log, whose files are a chain and whose lines can all be read; raises JoinFault."""
+    names = sorted(name for name in os.listdir(folder) if NAME.fullmatch(name))
+    if not names:
+        raise JoinFault("%s has no files of a log; give the folder of a recorder's log" % folder)
+    refusals = Refusals(True)
+    paths = in_chain([os.path.join(folder, name) for name in names], refusals)
+    if paths is None:
+        raise JoinFault("%s has files that are none of a recorder's log" % folder)
+    if refusals.refused:
+        raise Refused(folder, refusals)
+    # What is still written grows meanwhile.
+    sizes = [(path, os.path.getsize(path) if path == paths[-1] and path.endswith(".jsonl") else MOST) for path in paths]
+    for row in rows_of(sizes):
+        for _ in read_events([(row.line, row.value)], row.file, refusals):
+            pass
+    if refusals.refused:
+        raise Refused(folder, refusals)
+    return Given(folder, partial(rows_of, sizes), end_of(paths[-1]).said is not None)
+
+
+def rows_of(sizes: list[tuple[str, int]]) -> Iterator[Row]:
+    """The lines of files, of each so many bytes; not one that is still written."""
+    for path, size in sizes:
+        with opened(path) as file:
+            for line, raw in enumerate(file, 1):
+                size -= len(raw)
+                if size < 0 or not raw.endswith(b"\n"):
+                    break
+                try:
+                    value = json.loads(raw)
+                    assert isinstance(value, dict) and isinstance(value["event"], str)
+                except (ValueError, KeyError, AssertionError):
+                    raise JoinFault("%s:%d: no line of a recorder's log" % (path, line)) from None
+                yield Row(path, line, value)
+
+
+def write(join: Join, folder: str) -> int:
+    """Writes the joined log whole or not at all; how many lines it has."""
+    part = folder.rstrip("/") + ".part"
+    shutil.rmtree(part, ignore_errors=True)
+    files, count = LogFiles(part, JOINED + join.service, age=float("inf")), 0
+    try:
+        files.lock()
+        waiting: list[bytes] = []
+        for value in join.lines():
+            waiting.append(ENCODE(value).encode() + b"\n")
+            count += 1
+            if len(waiting) == LINES:
+                files.add(b"".join(waiting))
+                waiting.clear()
+        files.add(b"".join(waiting))
+        files.close()
+        os.remove(os.path.join(part, "lock"))
+        os.rename(part, folder)
+    except LogFault as fault:
+        raise DeviceFault("cannot write %s: %s" % (folder, fault)) from None
+    finally:
+        shutil.rmtree(part, ignore_errors=True)
+    return count
+
+
+def main(words: list[str]) -> int:
+    given = given_of(words)
+    if os.path.exists(given.out):
+        raise JoinFault("%s is there already; give the name of a folder that is not" % given.out)
+    try:
+        folders = [one for one in given.logs if os.path.isdir(one)]
+        own = [Given(one, partial(rows_of, [(one, os.path.getsize(one))]), True) for one in given.logs if one not in folders]
+        join = Join([log_of(folder) for folder in folders], given.skew * 1_000_000, own, int(given.stale_by * 1e9))
+        count = write(join, given.out)
+    except OSError as fault:
+        raise DeviceFault("cannot use %s: %s" % (fault.filename, fault.strerror)) from None
+    print("joined %d logs of %s: %d changes, %d lines" % (len(given.logs), join.service, join.way.spine.count, count))
+    return 0

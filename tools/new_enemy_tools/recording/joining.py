@@ -1,0 +1,255 @@
+"""The logs of several recorders of one service as one log (docs/RECORDING.md, "Several recorders").
+
+The feed of the changes is what all share. Each line keeps its place among the changes; content stands before what shows it.
+"""
+import heapq
+from bisect import bisect_right
+from typing import Iterator, NamedTuple, Optional, Sequence, Union
+
+from new_enemy_tools.importing.events import Event, Relationship, read_events
+from new_enemy_tools.importing.refusals import Refusals
+from new_enemy_tools.importing.service import ServiceRules
+from new_enemy_tools.importing.times import nanoseconds
+from new_enemy_tools.recording.bearing import Bearing
+from new_enemy_tools.recording.lines import time_text
+from new_enemy_tools.recording.own_events import NEVER, Own, issued_by, lines_of, open_gap, own_of, refuse_other_store, timed_of
+from new_enemy_tools.recording.sketches import Change, Given, JoinFault, Sketch, Value, Version, refuse_unlike, version_of
+from new_enemy_tools.recording.spine import Numbered, Spine, Track
+
+# Which came first of changes that bear on a check, one recorder has in another way than another.
+UNORDERED = "changes that the recorders have in different orders"
+UNKNOWN = "the content version may have been saved through a recorder whose log ends before"
+OPEN = "%s is not closed, since it is still written or its recorder was killed"
+# What waited when a recorder was killed had its answer so long before its last line, or later.
+WAITED = 31 * 10 ** 9
+
+
+class Placed(NamedTuple):
+    """A line with its place among the changes; those of one place stand by the numbers of their logs, and in their order there."""
+
+    place: int
+    log: int
+    number: int
+    value: Value
+
+
+class Moved(NamedTuple):
+    """Where a check stands among the changes of all logs; without a value where that can't be said."""
+
+    place: int
+    value: Optional[Value]
+
+
+class OfNumbers:
+    """Of SpiceDB: a revision is the same in all logs."""
+
+    def __init__(self, sketches: list[Sketch]):
+        self.spine = Numbered(sketches)
+
+    def place(self, log: int, revision: int) -> int:
+        return bisect_right(self.spine.numbers, revision)
+
+    def moved(self, log: int, revision: int, value: Value) -> Moved:
+        return Moved(self.place(log, revision), value)
+
+
+class OfPlaces:
+    """Of OpenFGA: a revision is a place in the recorder's own order of the changes."""
+
+    def __init__(self, sketches: list[Sketch]):
+        self.spine, self.sketches = Spine(sketches[0]), sketches
+        for one in sketches[1:]:
+            self.spine.add(one)
+        self.tracks: list[Track] = self.spine.end()
+        self.bearing = _bearing(sketches)
+
+    def _step(self, log: int, revision: int) -> int:
+        return bisect_right(self.sketches[log].numbers, revision)
+
+    def place(self, log: int, revision: int) -> int:
+        return self.tracks[log].span[self._step(log, revision)]
+
+    def moved(self, log: int, revision: int, value: Value) -> Moved:
+        """A check with the places of its states among the changes of all logs."""
+        place, track, goal = self.place(log, revision), self.tracks[log], Relationship(*value["goal"])
+        key = next(one for one in ("newest_between", "snapshot_between", "snapshot") if one in value)
+        low, high = (value[key],) * 2 if key == "snapshot" else value[key]
+        spans = track.spans(self._step(log, low), self._step(log, high), lambda change: self._bears(change, goal))
+        is_content = value["event"] == "content"
+        # A content check stands behind all that was known when it began, and saw no less.
+        least = place if is_content else 0
+        if spans is None or any(one.high < least for one in spans):
+            return Moved(place, None)
+        first, last = max(least, min(one.low for one in spans)), max(one.high for one in spans)
+        made = dict(value)
+        if key == "snapshot":
+            last = first if is_content else last
+            made[key] = self.spine.number(last)
+        else:
+            made[key] = [self.spine.number(first), self.spine.number(last)]
+        token = value.get("token")
+        if token is not None and token == value.get("snapshot"):
+            made["token"] = made["snapshot"]
+        elif token is not None:
+            whole = track.whole(self._step(log, token))
+            if whole is None:
+                return Moved(place, None)
+            made["token"] = self.spine.number(whole)
+        return Moved(max(place, last if not is_content else 0), made)
+
+    def _bears(self, change: Change, goal: Relationship) -> bool:
+        return not change.tuples or any(self.bearing.bears(one, goal) for one in change.tuples)
+
+
+def _bearing(sketches: list[Sketch]) -> Bearing:
+    """Which changes bear on a question, by all rules and by what relations take in these logs."""
+    takes: dict[tuple[str, str], set[tuple[str, Optional[str]]]] = {}
+    found = Bearing()
+    for sketch in sketches:
+        listed = [sketch.base, *(change.tuples for step in sketch.steps for change in step)]
+        for one in (one for tuples in listed for one in tuples):
+            takes.setdefault((one.type, one.relation), set()).add((one.user_type, one.user_relation))
+    for sketch in sketches:
+        rules = [sketch.rules, *(change.value for step in sketch.steps for change in step if change.is_rules)]
+        for event in read_events(((1, one) for one in rules), sketch.given.name, Refusals(True)):
+            assert isinstance(event, Event)
+            found.add(ServiceRules(event, None, takes))
+    return found
+
+
+def _by_beginning(sketches: list[Sketch]) -> list[Sketch]:
+    """Logs in the order in which they begin. Of two that begin behind as many changes that is later whose model another log has as a
+    change."""
+    came = {change.value.get("model") for sketch in sketches for step in sketch.steps for change in step if change.is_rules}
+    return sorted(sketches, key=lambda one: (one.revision if one.count is None else one.count, (one.rules or {}).get("model") in came))
+
+
+class Join:
+    """Goes twice through logs: once for their changes, and once for all lines. `skew` is by how many nanoseconds the clocks of the
+    machines may be apart, and `stale` how old the answers may be that applications tell of and that did not ask for the newest state."""
+
+    def __init__(self, given: list[Given], skew: int, own: Sequence[Given] = (), stale: int = 0):
+        self.skew = skew
+        if not given:
+            raise JoinFault("events of an application need a log of the changes: that of `ne record --changes-only`")
+        sketches = [Sketch(one) for one in given]
+        refuse_unlike(sketches)
+        self.service, store = sketches[0].service, sketches[0].store
+        self.sketches = _by_beginning(sketches)
+        self.way: Union[OfNumbers, OfPlaces] = OfNumbers(self.sketches) if store is None else OfPlaces(self.sketches)
+        self.own = list(map(own_of, own))
+        refuse_other_store(self.own, store)
+        self.timed = timed_of(self.sketches, skew, stale, self.way.bearing) if self.own and isinstance(self.way, OfPlaces) else None
+        self.issued: set[Version] = set().union(*(one.issued for one in self.sketches), *map(issued_by, self.own))
+        # until when each log has all that was saved through its recorder
+        self.untils = [one.until - skew - (0 if one.given.is_closed else WAITED) for one in self.sketches]
+        for number, one in enumerate(self.sketches):
+            if one.timed[1]:
+                # Nothing is saved through it.
+                self.untils[number] = NEVER
+        self.untils += [one.until - skew for one in self.own]
+        self.done: set[Version] = set()
+        self.told: set[Version] = set()
+        self.held: dict[Version, list[Value]] = {}
+
+    def lines(self) -> Iterator[Value]:
+        """The joined log without its head and its end."""
+        for sketch in self.sketches:
+            # What was saved before it began may be shown by any check.
+            yield from sketch.headless
+        at = 0
+        logs = [self._placed(log) for log in range(len(self.sketches))]
+        logs += [self._said(number, own) for number, own in enumerate(self.own, len(logs))]
+        for placed in heapq.merge(*logs):
+            while at < placed.place:
+                at += 1
+                yield from self.way.spine.lines(at)
+            yield from self._ordered(placed)
+        for place in range(at + 1, self.way.spine.count + 1):
+            yield from self.way.spine.lines(place)
+        for listed in self.held.values():
+            yield from listed
+        yield from self._open()
+
+    def _placed(self, log: int) -> Iterator[Placed]:
+        """The lines of a log, but for its changes, in the order of their places."""
+        sketch, is_base = self.sketches[log], True
+        revision = sketch.revision
+        for number, row in enumerate(sketch.given.rows()):
+            value, event = row.value, row.value["event"]
+            if event in ("rules", "write", "feed", "log", "place", "closed") or event == "unmapped" and value.get("userset"):
+                is_part = event in ("rules", "write", "unmapped") and is_base
+                if is_part and log == 0:
+                    yield Placed(0, log, number, value)
+                if event == "place":
+                    is_base = False
+                if event in ("rules", "write") and not is_base:
+                    revision = value["revision"]
+            elif event in ("check", "content"):
+                moved = self.way.moved(log, revision, value)
+                told = {"file": row.file, "line": row.line, "clock": sketch.given.name}
+                yield Placed(moved.place, log, number, {**(_lost(value) if moved.value is None else moved.value), **told})
+            elif event == "read" or event == "gap" and (value.get("from") is None or sketch.timed[1] and not value.get("lost")):
+                # Nothing was asked through a recorder of the changes alone.
+                continue
+            else:
+                yield Placed(self.way.place(log, revision), log, number, self._earlier(value) if event == "gap" else value)
+
+    def _said(self, number: int, own: Own) -> Iterator[Placed]:
+        """What an application says, in the order of the places."""
+        assert self.timed is not None and isinstance(self.way, OfPlaces)
+        log, timed = self.timed
+        told, found = {"file": own.name, "clock": own.name}, []
+        for line, (row, said) in enumerate(lines_of(own, timed)):
+            value, place = said.value, self.way.place(log, said.revision)
+            if value["event"] in ("check", "content"):
+                moved = self.way.moved(log, said.revision, value)
+                value, place = _lost(value) if moved.value is None else moved.value, moved.place
+            elif value["event"] == "gap":
+                value = self._earlier(value)
+            found.append(Placed(place, number, line, value if value["event"] == "gap" else {**value, **told, "line": row.line}))
+        return iter(found)
+
+    def _earlier(self, value: Value) -> Value:
+        """A gap that begins earlier, by as much as the clocks may be apart."""
+        since = nanoseconds(value["from"])
+        return {**value, "from": time_text((since or 0) - self.skew)}
+
+    def _ordered(self, placed: Placed) -> Iterator[Value]:
+        """A line, and what waited for it; a check of a version waits for the content check of that."""
+        value, version = placed.value, version_of(placed.value)
+        if version is None or value["event"] == "gap":
+            yield value
+        elif value["event"] == "check" and version in self.issued and version not in self.done:
+            self.held.setdefault(version, []).append(value)
+        else:
+            if value["event"] == "check" and version not in self.issued and version not in self.told and self._may_be_saved(placed):
+                self.told.add(version)
+                yield {"event": "unmapped", "reason": UNKNOWN, "version": list(version), "file": value["file"], "line": value["line"]}
+            yield value
+            if value["event"] != "check":
+                self.done.add(version)
+                yield from self.held.pop(version, ())
+
+    def _may_be_saved(self, placed: Placed) -> bool:
+        """Whether a version may have been saved through a recorder whose log ends before it is shown."""
+        at = nanoseconds(placed.value.get("time"))
+        return at is None or any(log != placed.log and until < at for log, until in enumerate(self.untils))
+
+    def _open(self) -> Iterator[Value]:
+        end = max(one.until for one in self.sketches)
+        for own in self.own:
+            gap = open_gap(own, end, self.skew)
+            if gap is not None:
+                yield gap
+        for one in self.sketches:
+            if not one.given.is_closed and not one.timed[1]:
+                yield {"event": "gap", "from": time_text(max(0, one.until - self.skew - WAITED)), "to": time_text(end),
+                       "reason": OPEN % one.given.name, "time": time_text(end)}
+
+
+def _lost(value: Value) -> Value:
+    """The line of a check whose place can't be said."""
+    goal, version = Relationship(*value["goal"]), version_of(value)
+    saved = {"version": list(version)} if version is not None and value["event"] == "content" else {}
+    return {"event": "unmapped", "reason": UNORDERED, "detail": str(goal), **saved}

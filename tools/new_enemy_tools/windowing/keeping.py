@@ -1,0 +1,104 @@
+"""The trace of a day that is kept, compressed: the lines that the program was given, which are those that the days before left and the day's
+own. A file beside it says which line of the log each is."""
+import json
+import os
+from typing import Iterator, NamedTuple, Optional
+
+from new_enemy_tools.coverage import Coverage, of_row
+from new_enemy_tools.faults import ToolFault
+from new_enemy_tools.findings import Finding, Report, finding_of
+from new_enemy_tools.looked import Looked
+from new_enemy_tools.packing import ENDS, pack, packed_at, unpacked
+from new_enemy_tools.progress import Progress
+from new_enemy_tools.trace import Trace, read_lines
+from new_enemy_tools.trace_lines import ids_in
+from new_enemy_tools.windowing.days import TRACES
+from new_enemy_tools.windowing.reading import Joined, Own
+from new_enemy_tools.windowing.run import Audited
+
+PIECE = 1 << 20
+TRACE, NUMBERS = "trace", TRACES[-1]
+
+
+class NotKept(ToolFault):
+    """A day whose trace is not kept."""
+
+
+def keep_trace(folder: str, found: Audited, own: Own) -> None:
+    """Keeps a day's trace in its folder."""
+    pack(os.path.join(folder, TRACE), _pieces(found, own))
+    with open(os.path.join(folder, NUMBERS), "w", encoding="utf-8") as file:
+        json.dump({"before": found.window.old.head.lines, "carried": [row.line for row in found.carried]}, file, separators=(",", ":"))
+        file.write("\n")
+
+
+def _pieces(found: Audited, own: Own) -> Iterator[bytes]:
+    with own.open() as file:
+        joined = Joined(found.carried, file)
+        while piece := joined.read(PIECE):
+            yield piece
+
+
+class Told(NamedTuple):
+    """What was told with a day, and what of it was looked at."""
+
+    report: Report
+    coverage: Coverage
+    looked: Looked
+
+
+class KeptDay:
+    """The folder of a day."""
+
+    def __init__(self, folder: str):
+        self.folder = folder
+
+    def read(self, _progress: Progress) -> Trace:
+        """As `read_trace_of` reads the bytes of a trace."""
+        return self.trace()
+
+    def trace(self) -> Trace:
+        """Each line by its number in the log."""
+        path = packed_at(os.path.join(self.folder, TRACE))
+        if not path:
+            raise NotKept("%s has no trace: the traces of as many days are kept as --keep-days says" % self.folder)
+        data = unpacked(path)
+        try:
+            with open(os.path.join(self.folder, NUMBERS), encoding="utf-8") as file:
+                given = json.load(file)
+            carried, before = [int(line) for line in given["carried"]], int(given["before"])
+        except (OSError, ValueError, KeyError, TypeError):
+            raise NotKept("%s is not as it was written, and without it nobody knows the lines of %s" % (
+                os.path.join(self.folder, NUMBERS), path)) from None
+        raws = data.split(b"\n")
+        count = len(raws) - len(carried)
+        # By their places in the log, where a line that was carried may stand before others that replace commits.
+        numbered = sorted(zip([*carried, *range(before + 1, before + count + 1)], raws))
+        trace = read_lines((line, raw) for line, raw in numbered if raw.strip(b" \t\r"))
+        trace.table = next((mark for mark in map(ids_in, raws[len(carried):len(carried) + 1]) if mark is not None), None)
+        return trace
+
+    def told(self) -> Told:
+        """What its report says; raises NotKept."""
+        try:
+            with open(os.path.join(self.folder, "report.txt"), encoding="utf-8") as file:
+                lines = file.read().splitlines()
+            with open(os.path.join(self.folder, "summary.json"), encoding="utf-8") as file:
+                summary = json.load(file)
+            found = [finding_of(line) for line in lines if line.startswith("line ")]
+            findings: list[Finding] = [one for one in found if one is not None]
+            verdict = str(summary["verdict"])
+            if len(findings) != summary["findings"]:
+                raise ValueError
+            return Told(Report(findings, int(summary["entries"]), verdict), of_row(summary["coverage"]), Looked(**summary["looked"]))
+        except (OSError, ValueError, KeyError, TypeError):
+            raise NotKept("%s has not the report and the summary of a day, as this version writes them" % self.folder) from None
+
+
+def kept_day(path: str) -> Optional[KeptDay]:
+    """The day of a folder, or of the trace in it; None of any other path."""
+    folder = path if os.path.isdir(path) else os.path.dirname(path) or "."
+    if os.path.isdir(path) and os.path.exists(os.path.join(folder, "summary.json")):
+        return KeptDay(folder)
+    is_trace = path.endswith(ENDS) and os.path.basename(path).rpartition(".")[0] == TRACE
+    return KeptDay(folder) if is_trace and os.path.exists(os.path.join(folder, NUMBERS)) else None

@@ -1,0 +1,86 @@
+"""How long a recorder takes to begin in front of a store of OpenFGA that is large, and how much memory: recording_base.py TUPLES ..
+
+The service is a stand-in that answers each page of changes at once; a tuple was written each millisecond.
+"""
+import json
+import os
+import subprocess
+import sys
+import tempfile
+import time
+
+TOOLS = os.path.dirname(os.path.dirname(os.path.abspath(__file__)))
+sys.path.append(TOOLS)
+
+from tests.ports import free_port  # noqa: E402
+from tests.stand_in import Handler  # noqa: E402
+
+MODEL = {"schema_version": "1.1", "id": "M", "type_definitions": [
+    {"type": "user"}, {"type": "document", "relations": {"viewer": {"this": {}}},
+                       "metadata": {"relations": {"viewer": {"directly_related_user_types": [{"type": "user"}]}}}}]}
+
+
+class Large(Handler):
+    count = 0
+
+    def do_GET(self):
+        path, _, query = self.path.partition("?")
+        given = dict(one.split("=") for one in query.split("&"))
+        if path == "/stores":
+            self.answer({"stores": [{"id": "S"}]})
+        elif path.endswith("/authorization-models"):
+            self.answer({"authorization_models": [MODEL]})
+        else:
+            first = int(given.get("continuation_token") or 0)
+            last = min(self.count, first + int(given["page_size"]))
+            changes = [{"tuple_key": {"user": "user:u%d" % (number % 5000), "relation": "viewer", "object": "document:d%d" % (number // 7)},
+                        "operation": "TUPLE_OPERATION_WRITE", "timestamp": "2024-01-01T%02d:%02d:%02d.%03dZ" % (
+                            number // 3600000 % 24, number // 60000 % 60, number // 1000 % 60, number % 1000)} for number in range(first, last)]
+            self.answer({"changes": changes, "continuation_token": str(last)})
+
+
+def served(count, port):
+    from http.server import ThreadingHTTPServer
+    Large.count = count
+    ThreadingHTTPServer(("127.0.0.1", port), Large).serve_forever()
+
+
+def most_bytes(parent):
+    """The most memory that the keeper ever had."""
+    with open("/proc/%d/task/%d/children" % (parent, parent), encoding="ascii") as file:
+        child = file.read().split()[0]
+    with open("/proc/%s/status" % child, encoding="ascii") as file:
+        return next(int(line.split()[1]) << 10 for line in file if line.startswith("VmHWM"))
+
+
+def measured(count):
+    port = free_port()
+    service = subprocess.Popen([sys.executable, os.path.abspath(__file__), "--serve", str(count), str(port)])
+    with tempfile.TemporaryDirectory() as room, open(os.path.join(room, "said"), "w+", encoding="utf-8") as said:
+        time.sleep(1)
+        began = time.monotonic()
+        recorder = subprocess.Popen([sys.executable, os.path.join(TOOLS, "record"), "--openfga", "http://127.0.0.1:%d" % port, "--listen",
+                                     "127.0.0.1:%d" % free_port(), "--out", os.path.join(room, "log")], stderr=said)
+        try:
+            while "recording" not in open(said.name, encoding="utf-8").read():
+                time.sleep(0.1)
+            took, size = time.monotonic() - began, most_bytes(recorder.pid)
+            log = sum(os.path.getsize(os.path.join(room, "log", name)) for name in os.listdir(os.path.join(room, "log")))
+            print(json.dumps({"tuples": count, "seconds": round(took, 1), "bytes": size, "a tuple": round(size / count), "log": log}))
+        finally:
+            recorder.terminate()
+            recorder.wait()
+            service.kill()
+            service.wait()
+
+
+def main(words):
+    if words[0] == "--serve":
+        served(int(words[1]), int(words[2]))
+        return
+    for count in map(int, words):
+        measured(count)
+
+
+if __name__ == "__main__":
+    main(sys.argv[1:])

@@ -1,0 +1,230 @@
+"""Events that an application writes itself, beside a log of the changes alone: ne record --changes-only, and ne join."""
+import importlib.util
+import os
+from unittest import mock
+
+from new_enemy_tools.recording import own_events
+from new_enemy_tools.recording.joining import Join
+from new_enemy_tools.recording.own_events import BEFORE, BEHIND, OTHER, Timed
+from new_enemy_tools.recording.places import Places
+from new_enemy_tools.recording.sketches import Given, JoinFault, Row
+from tests.recorded import Client
+from tests.simulation import run_apart
+from tests.stand_in_openfga import STORE
+from tests.support import EXAMPLES, Case
+from tests.test_joining import change, events, lines
+from tests.test_recording_openfga import EARLY, FIXED, MODEL, USERS, OpenFga, key
+
+PLACE = os.path.join(EXAMPLES, "recorder", "new_enemy_events.py")
+SEEDS = 250
+SECONDS = 10 ** 9
+
+
+def library():
+    spec = importlib.util.spec_from_file_location("new_enemy_events", PLACE)
+    made = importlib.util.module_from_spec(spec)
+    spec.loader.exec_module(made)
+    return made
+
+
+def at(second):
+    return "2024-01-01T00:00:%02dZ" % second
+
+
+def log(*given):
+    """A log of the changes: at these seconds a user comes, between one second before and then; read up to second 50."""
+    rows = [{"event": "read", "until": at(1)}]
+    for revision, (second, user) in enumerate(given, 1):
+        rows.append({**change(revision, user, at=second), "came": [at(second - 1), at(second)]})
+    return lines(*rows, {"event": "read", "until": at(50)})
+
+
+def asked(began, ended, **more):
+    return {"event": "asked", "began": at(began), "ended": at(ended), "goal": ["document", "d", "viewer", "user", "a"], "reply": True, "newest": True, **more}
+
+
+def said(*rows, is_over=True, store="S"):
+    head = {"event": "own", "format": 1, "service": "openfga", "store": store, "time": at(0)}
+    count = sum(row["event"] == "asked" for row in rows)
+    return [head, *rows, *([{"event": "over", "time": at(49), "asked": count}] if is_over else [])]
+
+
+def joined(log_rows, *own, skew=0, stale=0):
+    def given(name, rows):
+        return Given(name, lambda: (Row(name, number, row) for number, row in enumerate(rows, 1)), True)
+    return list(Join([given("log", log_rows)], skew, [given("own%d" % number, rows) for number, rows in enumerate(own)], stale).lines())
+
+
+class Simulated(Case):
+    def test_no_right_reply_is_accused_and_no_wrong_one_passes(self):
+        recorded = lost = 0
+        for seed in range(SEEDS):
+            _, verdict = run_apart(seed)
+            self.assertEqual(verdict.faults(), [], "seed %d" % seed)
+            recorded, lost = recorded + len(verdict.entries), lost + verdict.lost
+        self.assertGreater(recorded, 1.5 * lost)
+
+    def test_a_model_that_changes(self):
+        for seed in range(100):
+            self.assertEqual(run_apart(seed, models=True)[1].faults(), [], "seed %d" % seed)
+
+    def assert_finds(self, fault, **values):
+        for seed in range(1000):
+            if any(one.startswith(fault) for one in run_apart(seed, **values)[1].faults()):
+                return
+        self.fail(fault)
+
+    def test_an_order_that_is_not_known_taken_for_known(self):
+        with mock.patch.object(Places, "is_unsure", lambda *words: False):
+            self.assert_finds("a right reply is called wrong", race=20, writes=0.6, requests=25, faults=0)
+
+    def test_a_change_that_counts_as_soon_as_it_may_have_come(self):
+        kept = Places.known
+        with mock.patch.object(Places, "known", lambda self, clock: kept(self, clock + 10 ** 7)), \
+                mock.patch.object(Places, "has_unknown", lambda *words: False):
+            self.assert_finds("a right reply is called wrong", writes=0.6, requests=25, faults=0)
+
+    def test_a_cache_that_is_not_told(self):
+        kept = Timed.__init__
+        with mock.patch.object(Timed, "__init__", lambda self, sketch, skew, stale, bearing: kept(self, sketch, skew, 0, bearing)):
+            self.assert_finds("a right reply is called wrong", stale=10 ** 7, faults=0)
+
+
+class Parts(Case):
+    def places(self, rows):
+        return [row.get("newest_between") or row.get("reason") for row in rows if row["event"] in ("check", "content", "unmapped")]
+
+    def test_what_a_check_may_have_seen(self):
+        made = joined(log((10, "a"), (20, "b")), said(asked(5, 8), asked(5, 15), asked(12, 15), asked(12, 19), asked(12, 20), asked(21, 30)))
+        self.assertEqual(self.places(made), [[0, 0], [0, 1], [1, 1], [1, 1], [1, 2], [2, 2]])
+
+    def test_clocks_that_are_apart(self):
+        made = joined(log((10, "a")), said(asked(5, 8), asked(12, 15), asked(14, 15)), skew=3 * SECONDS)
+        self.assertEqual(sorted(self.places(made)), [[0, 1], [0, 1], [1, 1]])
+
+    def test_checks_that_the_log_does_not_have_the_changes_of(self):
+        made = joined(log((10, "a")), said(asked(0, 5), asked(45, 51)))
+        self.assertEqual(sorted(self.places(made)), [BEFORE, BEHIND])
+
+    def test_a_cache(self):
+        made = joined(log((10, "a")), said(asked(12, 15, newest=False), asked(12, 15)), stale=5 * SECONDS)
+        self.assertEqual([row.get("snapshot_between", row.get("newest_between")) for row in made if row["event"] == "check"], [[0, 1], [1, 1]])
+
+    def test_versions(self):
+        showing, saving = said(asked(12, 15, shows="v")), said(asked(11, 40, saves="v"))
+        made = joined(log((10, "a"), (20, "b")), showing, saving)
+        self.assertEqual(events(made)[2:], [("write", 1), ("content", None), ("check", None), ("write", 2)])
+        lost = joined(log((10, "a"), (20, "b")), said(asked(12, 51, saves="v")), showing)
+        self.assertEqual([row.get("version") for row in lost if row["event"] == "unmapped"], [["document", "d", "v"]])
+
+    def test_a_model_that_a_check_names(self):
+        rules = {**lines()[2], "revision": 1, "model": "N", "came": [at(19), at(20)]}
+        rows = lines({"event": "read", "until": at(1)}, rules, {"event": "read", "until": at(50)})
+        made = joined(rows, said(*(asked(began, began + 2, model=model) for began in (5, 25) for model in "MN")))
+        self.assertEqual(sorted(map(str, self.places(made))), ["[0, 0]", "[1, 1]", OTHER, OTHER])
+
+    def test_a_process_that_was_killed_or_could_not_write(self):
+        lost = {"event": "lost", "from": at(5), "to": at(9), "count": 3}
+        made = joined(log((10, "a")), said(lost, asked(12, 15), is_over=False), skew=SECONDS)
+        self.assertEqual([(row["from"], row["reason"], row.get("lost")) for row in made if row["event"] == "gap"],
+                         [("2024-01-01T00:00:04.000000Z", own_events.LOST, 3),
+                          ("2024-01-01T00:00:14.000000Z", "own0 has no end, since its process runs or was killed", None)])
+
+    def test_what_is_refused(self):
+        whole = said(asked(5, 8))
+        plain = lines(change(1, "a"))
+        for log_rows, rows, told in (
+                (log(), said(store="T"), "own0 is of the store T, and the logs of S"),
+                (plain, whole, "events of an application need a log of the changes: that of `ne record --changes-only`"),
+                (log(), whole[1:], "own0 does not begin with a line `own` of format 1, service openfga and a store"),
+                (log(), whole[:1] + whole[2:], "own0:2: the file has 0 checks, and 1 were written: it was changed or cut"),
+                (log(), said({**asked(5, 8), "rely": True}), 'own0:2: unknown key "rely"; is "reply" meant?'),
+                (log(), said(asked(8, 5)), "own0:2: `began` and `ended` are no times of RFC 3339 in their order"),
+                (log(), said(asked(5, 8, saves="v", shows="w")), "own0:2: `saves` beside `shows`"),
+                (log(), said({**asked(5, 8), "reply": 1}), "own0:2: `reply` or `newest` is neither true nor false"),
+                (log(), [*whole[:1], *whole], "own0 has more than one beginning or end")):
+            with self.subTest(told), self.assertRaises(JoinFault) as found:
+                joined(log_rows, rows)
+            self.assertEqual(str(found.exception), told)
+
+
+class Library(Case):
+    def test_what_it_writes(self):
+        made = library().Events(self.path("events"), "S")
+        with made.asked("user:bob", "viewer", "document:a:b", newest=True, shows="v") as one:
+            one.reply = True
+        with made.asked("user:bob", "viewer", "document:x"):
+            pass
+        with self.assertRaises(KeyError), made.asked("user:bob", "viewer", "document:x"):
+            raise KeyError
+        made.close()
+        rows = self.rows(made.path)
+        self.assertEqual([row["event"] for row in rows], ["own", "asked", "over"])
+        self.assertEqual((rows[1]["goal"], rows[1]["shows"], rows[2]["asked"]), (["document", "a:b", "viewer", "user", "bob"], "v", 1))
+        self.assertEqual(os.stat(made.path).st_mode & 0o777, 0o600)
+
+    def test_a_disk_that_is_full_fails_no_request(self):
+        made, write = library().Events(self.path("events"), "S"), os.write
+        for chance in (lambda file, data: write(file, data[:7]), mock.Mock(side_effect=OSError)):
+            with mock.patch("os.write", chance), made.asked("user:bob", "viewer", "document:x") as one:
+                one.reply = False
+        with made.asked("user:bob", "viewer", "document:x") as one:
+            one.reply = True
+        made.close()
+        self.assertEqual([(row["event"], row.get("count")) for row in self.rows(made.path)], [("own", None), ("lost", 2), ("asked", None), ("over", None)])
+
+
+class Processes(OpenFga):
+    def test_what_an_application_says_is_audited(self):
+        """Stale replies that the service plants are found, and no other."""
+        self.start_service(MODEL, "0.3", "planted")
+        self.prepare()
+        said_to = open(self.path("said"), "w+", encoding="utf-8")
+        self.addCleanup(said_to.close)
+        recorder = self.start(os.path.join(os.path.dirname(os.path.dirname(__file__)), "record"), "--openfga", "http://127.0.0.1:%d" % self.service_port,
+                              "--changes-only", "--out", "log", stderr=said_to)
+        self.wait_for(lambda: self.of_kind("read") if "recording" in self.get("said") else False, lambda: self.get("said"))
+        module = library()
+        apps = [module.Events(self.path("events"), STORE) for _ in range(2)]
+
+        def work(client, random, number, turn):
+            client.port = self.service_port
+            user, thing = random.choice(USERS), random.choice(FIXED + EARLY)
+            relation = "viewer"
+            version = {"saves": "v%d.%d" % (number, turn)} if turn % 10 == 0 else {}
+            if turn % 7 == 0:
+                self.write(client, key("user:n%d.%d" % (number, turn), "viewer", "document:x"))
+            if version:
+                user, relation, thing = USERS[0], "editor", FIXED[0]
+            with apps[number % 2].asked(user, relation, thing, newest=True, **version) as one:
+                one.reply = self.check(client, user, relation, thing)[1]["allowed"]
+            if version:
+                with apps[1 - number % 2].asked(USERS[0], "viewer", thing, newest=True, shows=version["saves"]) as one:
+                    one.reply = self.check(client, USERS[0], "viewer", thing)[1]["allowed"]
+        self.port = self.service_port
+        self.run_clients(4, 40, work)
+        count = sum(app.count for app in apps)
+        for app in apps:
+            app.close()
+        # The changes are read up to a second after the last check.
+        client = Client(self.service_port)
+        self.write(client, key("user:last", "viewer", "document:x"))
+        client.close()
+        self.wait_for(lambda: "last" in self.get("log/000001.jsonl"))
+        self.end(recorder)
+        run = self.run_process("join", "--skew", "20", "--out", "all", "log", *[app.path for app in apps])
+        self.assertEqual((run.returncode, run.stderr), (0, ""))
+        self.import_log(folder="all")
+        found = self.found()
+        planted = len(self.get("planted").splitlines())
+        self.assertEqual(set.union(*found.values()), {"F10 wrong reply"})
+        lost = len([row for row in self.of_kind("unmapped", "all") if "detail" in row])
+        self.assertEqual(len(self.of_kind("check", "all")) + len(self.of_kind("content", "all")) + lost, count)
+        self.assertLess(lost, 10)
+        self.assertTrue(planted - lost <= len(found) <= planted, (planted, lost, len(found)))
+        self.assertGreater(len(found), 5)
+
+    def test_what_does_not_go_together(self):
+        for words in (["--spicedb", "http://x", "--changes-only"], ["--openfga", "http://x"], ["--openfga", "http://x", "--changes-only", "--listen", ":1"],
+                      ["--openfga", "http://x", "--changes-only", "--share-port"]):
+            self.assertEqual(self.run_process("record", *words, "--out", "log").returncode, 3, words)
