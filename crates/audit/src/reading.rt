@@ -7,12 +7,10 @@ ghost use Rattle.audit.specs.Parts.{TraceRead, EvidenceRead};
 
 use crate::plain::AuditFault;
 use devices::Source;
-use evidence_blocks::judge_evidence_by;
-use evidence_check::{EvidenceCause, EvidenceFault, Judged, judge_evidence};
+use evidence_check::{EvidenceCause, EvidenceFault, Judged, judge_evidence, judge_evidence_by};
 use std::alloc::Global;
 use std::thread::Threads;
-use trace_blocks::read_trace_by;
-use trace_lines::{Cause, Trace, TraceFault, read_trace};
+use trace_lines::{Cause, Trace, TraceFault, read_trace, read_trace_by};
 
 impl From<TraceFault> for AuditFault {
     ghost use Rattle.audit.specs.Faults.{TellsTraceFault};

@@ -1,4 +1,6 @@
 pub mod BehindLemmas
+pub mod BlocksRead
+pub mod DeskSend
 pub mod Growing
 pub mod JsonBack
 pub mod JudgedLemmas
@@ -6,8 +8,12 @@ pub mod Judgements
 pub mod LineCauses
 pub mod Places
 pub mod RecordPieces
+pub mod RecordsApart
 pub mod RecordSteps
 pub mod Shown
 pub mod Sound
 pub mod StepLoops
 pub mod Taking
+pub mod TraceSync
+pub mod VerdictLines
+pub mod Verdicts

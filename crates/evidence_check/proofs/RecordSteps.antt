@@ -1,23 +1,20 @@
 -- What the reader of evidence makes of the record of some steps.
-use Rattle.std.proofs.Common.{◌≡◌, ℕ, true, List, [], ◌∷◌, map, Option, None, Some, Result, Ok, refl, ap, ◌∙◌}
+use Rattle.std.proofs.Common.{◌≡◌, ℕ, true, List, [], ◌∷◌, map, Some, Result, Ok, refl, ap, ◌∙◌}
 use Rattle.std.specs.List.{AllByRecursion}
 use Rattle.serde_json.specs.Data.{Data}
-use Rattle.serde_json.specs.Read.{read}
 use Rattle.serde_json.specs.View.{items_of}
 use Rattle.tuple_text.specs.Grammar.{IsFact}
 use Rattle.tuple_text.specs.Tuples.{FactValue}
 use Rattle.tuple_text.proofs.GrammarLaws.{fact_again}
-use Rattle.refusals.specs.Refusals.{◌>>=◌, needed, Fails}
+use Rattle.refusals.specs.Refusals.{◌>>=◌, needed}
 use Rattle.json_lines.specs.Fields.{are_strings}
 use Rattle.json_lines.specs.Json.{of_json}
-use Rattle.evidence_check.specs.Causes.{is_memory}
-use Rattle.evidence_check.specs.Reading.{facts_in, steps_in, is_known, are_known, is_step, are_shaped, steps_at, place_of, placed_steps, placed_text}
+use Rattle.evidence_check.specs.Reading.{facts_in, steps_in, is_known, are_known, is_step, are_shaped, steps_at, record_steps, record_in, record_of_text, place_of, placed_steps}
 use Rattle.evidence_check.specs.RecordData.{fact_data, step_data, record_data, HaveFacts}
 use Rattle.evidence_check.specs.RecordPieces.{IsRecord}
-use Rattle.evidence_check.specs.Steps.{StepValue, yes_step, no_step}
+use Rattle.evidence_check.specs.Steps.{RecordValue, StepValue, yes_step, no_step}
 use Rattle.evidence_check.specs.declared.cause.EvidenceCause.{EvidenceCause}
 use Rattle.evidence_check.specs.declared.cause.EvidenceCause.TheVariants as causes
-use Rattle.evidence_check.proofs.StepLoops.{unless_then}
 
 are_texts : (fs : List FactValue) → are_strings (items_of (map fact_data fs)) ≡ true
 are_texts [] = refl
@@ -61,25 +58,14 @@ pub data_placed : (lines : List ℕ) (line : ℕ) (steps : List StepValue) → H
 unfolding placed_steps
 data_placed lines line steps facts = rw (at_steps line steps, steps_read steps facts, steps_known steps) refl
 
+-- ---- the record by itself
+
+data_read : (line : ℕ) (steps : List StepValue) → HaveFacts steps
+    → record_in (record_data line steps) ≡ Ok (record { line = line; steps = steps })
+unfolding record_in record_steps
+data_read line steps facts = rw (at_steps line steps, steps_read steps facts, steps_known steps) refl
+
 -- a text that is read as the record
-pub text_placed : (text lines : List ℕ) (line : ℕ) (steps : List StepValue) (place : Option ℕ) → IsRecord text line steps
-    → place_of line lines ≡ place → placed_text lines text ≡ (needed causes.StrayLine place >>= placed steps)
-text_placed text lines line steps place is there =
-    ap (of_json causes.NotJson (placed_steps lines)) is.record_read ∙ data_placed lines line steps is.facts
-    ∙ ap (λ (p : Option ℕ). needed causes.StrayLine p >>= placed steps) there
-
--- what is done with a place and steps is done where the text is JSON
-pub of_json_then : {A B : Type 0} (read : Option Data) (f : Data → Result A EvidenceCause)
-    (g : A → Result B EvidenceCause) → of_json causes.NotJson (λ d. f d >>= g) read ≡ (of_json causes.NotJson f read >>= g)
-of_json_then None f g = refl
-of_json_then (Some d) f g = refl
-
-pub then_done : {A B : Type 0} (read : Option Data) (f : Data → Result A EvidenceCause)
-    (g : A → Result B EvidenceCause) (x : A)
-    → of_json causes.NotJson f read ≡ Ok x → of_json causes.NotJson (λ d. f d >>= g) read ≡ g x
-then_done read f g x is = of_json_then read f g ∙ ap (λ r. r >>= g) is
-
-pub then_fault : {A B : Type 0} (read : Option Data) (f : Data → Result A EvidenceCause)
-    (g : A → Result B EvidenceCause) (e : EvidenceCause) → Fails is_memory e (of_json causes.NotJson f read)
-    → Fails is_memory e (of_json causes.NotJson (λ d. f d >>= g) read)
-then_fault read f g e told = unless_then (is_memory e) (λ is. of_json_then read f g ∙ ap (λ r. r >>= g) is) told
+pub text_read : (text : List ℕ) (line : ℕ) (steps : List StepValue) → IsRecord text line steps
+    → record_of_text text ≡ Ok (record { line = line; steps = steps })
+text_read text line steps is = ap (of_json causes.NotJson record_in) is.record_read ∙ data_read line steps is.facts

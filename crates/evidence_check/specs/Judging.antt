@@ -3,9 +3,7 @@ use Rattle.std.specs.Prelude.{◌≡◌, ℕ, ◌||◌, Bool, true, false, List,
 use Rattle.std.specs.declared.vec.Vec.{Vec}
 use Rattle.std.specs.declared.alloc.Global.{Global}
 use Rattle.serde_json.specs.Data.{Data}
-use Rattle.serde_json.specs.Read.{read}
 use Rattle.refusals.specs.Refusals.{◌>>=◌, Unless}
-use Rattle.json_lines.specs.Json.{of_json}
 use Rattle.trace_lines.specs.Values.{TraceValue, EntryValue, entry_lines}
 use Rattle.evidence_check.specs.Causes.{is_memory, is_read}
 use Rattle.evidence_check.specs.Evidences.{steps_of}
@@ -41,9 +39,6 @@ put_judged j place steps =
 
 unfoldable pub judge_line : Judgements → Data → Result Judgements EvidenceCause
 judge_line j d = placed_steps j.lines d >>= λ p. put_judged j p.0 p.1
-
-abbrev pub judged_text : Judgements → List ℕ → Result Judgements EvidenceCause
-judged_text j text = of_json causes.NotJson (judge_line j) (read text)
 
 abbrev pub no_judgements : TraceValue → Judgements
 no_judgements t = record {

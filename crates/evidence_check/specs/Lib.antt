@@ -16,3 +16,4 @@ pub mod Records
 pub mod Rules
 pub mod Steps
 pub mod Taking
+pub mod Verdicts

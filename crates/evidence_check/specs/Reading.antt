@@ -14,7 +14,7 @@ use Rattle.trace_lines.specs.Values.{EntryValue, entry_lines}
 use Rattle.json_lines.specs.declared.reading.LineFault.{LineFault}
 use Rattle.evidence_check.specs.Causes.{text_cause, of_input, is_memory, is_read}
 use Rattle.evidence_check.specs.Records.{Records}
-use Rattle.evidence_check.specs.Steps.{StepValue, yes_step, no_step}
+use Rattle.evidence_check.specs.Steps.{RecordValue, StepValue, yes_step, no_step}
 use Rattle.evidence_check.specs.declared.cause.EvidenceCause.{EvidenceCause}
 use Rattle.evidence_check.specs.declared.cause.EvidenceCause.TheVariants as causes
 use Rattle.evidence_check.specs.declared.cause.EvidenceFault.{EvidenceFault}
@@ -104,6 +104,15 @@ known_steps items steps = if are_known items then Ok steps else Err causes.Unkno
 unfoldable pub record_steps : Data → Result (List StepValue) EvidenceCause
 record_steps d = needed causes.Shape (steps_at d) >>= λ items. steps_in items >>= known_steps items
 
+-- the record that a value is, whatever it is evidence for
+unfoldable pub record_in : Data → Result RecordValue EvidenceCause
+record_in d = needed causes.Shape (number_at (codes "line") d) >>= λ line. record_steps d
+    >>= λ steps. Ok (record { line = line; steps = steps })
+
+-- and the one that a text is
+abbrev pub record_of_text : List ℕ → Result RecordValue EvidenceCause
+record_of_text text = of_json causes.NotJson record_in (read text)
+
 abbrev pub count_of : StepValue → ℕ
 count_of (yes_step f) = 1
 count_of (no_step fs) = length fs
@@ -140,15 +149,8 @@ placed_steps lines d = do
   place ← needed causes.StrayLine (place_of line lines)
   Ok (place, steps)
 
--- the same of a text
-abbrev pub placed_text : List ℕ → List ℕ → Result (ℕ × List StepValue) EvidenceCause
-placed_text lines text = of_json causes.NotJson (placed_steps lines) (read text)
-
 unfoldable pub record_line : Records → Data → Result Records EvidenceCause
 record_line r d = placed_steps r.lines d >>= λ p. put_steps r p.0 p.1
-
-abbrev pub recorded_text : Records → List ℕ → Result Records EvidenceCause
-recorded_text r text = of_json causes.NotJson (record_line r) (read text)
 
 -- ---- the evidence
 

@@ -1,7 +1,8 @@
--- Steps of evidence, without where they lie in memory.
-use Rattle.std.specs.Prelude.{List, map}
+-- Steps and records of evidence, without where they lie in memory.
+use Rattle.std.specs.Prelude.{ℕ, List, map}
 use Rattle.tuple_text.specs.FactRefs.{fact_value}
 use Rattle.tuple_text.specs.Tuples.{FactValue}
+use Rattle.evidence_check.specs.declared.record.RecordRef.{RecordRef}
 use Rattle.evidence_check.specs.declared.step.Step.{Step}
 use Rattle.evidence_check.specs.declared.step.Step.TheVariants.{Yes, No}
 use Rattle.evidence_check.specs.declared.step.StepRef.{StepRef}
@@ -25,3 +26,12 @@ borrowed_step (RefNo fs) = no_step (map fact_value fs.items)
 
 abbrev pub borrowed_steps : List StepRef → List StepValue
 borrowed_steps steps = map borrowed_step steps
+
+-- a record by itself: the line that it names, and its steps
+pub record RecordValue : Type 0 where
+  pub line : ℕ
+  pub steps : List StepValue
+
+-- the record that a borrowed one stands for
+abbrev pub record_value : RecordRef → RecordValue
+record_value r = record { line = r.line; steps = borrowed_steps r.steps.items }

@@ -9,10 +9,10 @@ ghost use Rattle.evidence_check.specs.Steps.{borrowed_steps};
 use crate::asked_rules::AskedRules;
 use crate::cause::EvidenceCause;
 use crate::judged::{Judged, judge_borrowed};
-use crate::placed::{EntryLines, sought_steps, sought_text};
+use crate::placed::EntryLines;
+use crate::record::parse_record;
 use crate::records::are_too_many;
 use crate::step::StepRef;
-use json_lines::read_value;
 use std::alloc::{AllocError, Global};
 
 /// What a record says of its entry by itself.
@@ -25,7 +25,7 @@ pub struct Verdict {
 }
 
 /// How steps judge the entry at a place.
-pub(crate) fn judge_at<'t>(
+fn judge_at<'t>(
     alloc: Global,
     asked: &mut AskedRules<'t>,
     place: usize,
@@ -65,7 +65,6 @@ fn verdict_at<'t>(
 
 /// What a record says of its entry, whose place is sought first at `next`. Threads share the lines, and each has
 /// rules of its own that it asks.
-#[tactic(auto, unfolding(crate::specs::Alone::verdict_in))]
 pub fn judge_alone<'t>(
     alloc: Global,
     asked: &mut AskedRules<'t>,
@@ -76,13 +75,10 @@ pub fn judge_alone<'t>(
     ensures asked { asked.new ≡ asked.old }
     ensures verdict { Gives (λ v. v) result (verdict_of asked.old lines.now text.now) }
 {
-    if let Some(placed) = sought_text(alloc, lines, next, text) {
-        let (place, steps) = placed?;
-        return Ok(verdict_at(alloc, asked, place, &steps)?);
-    }
-    let Some(record) = read_value(alloc, text)? else {
-        return Err(EvidenceCause::NotJson);
-    };
-    let (place, steps) = sought_steps(alloc, lines, next, &record)?;
-    Ok(verdict_at(alloc, asked, place, &steps)?)
+    let mut value = None;
+    let record = parse_record(alloc, text, &mut value)?;
+    let place = lines
+        .seek(next, record.line)
+        .ok_or(EvidenceCause::StrayLine)?;
+    Ok(verdict_at(alloc, asked, place, &record.steps)?)
 }

@@ -1,22 +1,16 @@
 //! Judging the records as they are read.
 
-ghost use Rattle.std.specs.Prelude.{◌≡◌, replicate, slice_get, slice_set, None, Ok, Err, IfOk, IfErr, IfSome, OnOk};
-ghost use Rattle.serde_json.specs.View.{view};
+ghost use Rattle.std.specs.Prelude.{◌≡◌, replicate, slice_get, slice_set, Ok, Err, IfOk, IfErr, OnOk};
 ghost use Rattle.evidence_check.specs.Alone.{settled};
-ghost use Rattle.evidence_check.specs.Causes.{Gives};
-ghost use Rattle.evidence_check.specs.Judging.{is_judged, judge_line, judged_by, judged_text, no_judgements, put_judged};
-ghost use Rattle.evidence_check.specs.Steps.{borrowed_steps};
+ghost use Rattle.evidence_check.specs.Judging.{is_judged, no_judgements};
 ghost use Rattle.evidence_check.specs.declared.judged.Judged.TheVariants.{Missing};
 
-use crate::alone::{Verdict, judge_at};
+use crate::alone::{Verdict, judge_alone};
 use crate::asked_rules::AskedRules;
 use crate::cause::EvidenceCause;
 use crate::judged::Judged;
-use crate::placed::{EntryLines, placed_steps, placed_text};
-use crate::records::are_too_many;
-use crate::step::StepRef;
+use crate::placed::EntryLines;
 use json_lines::TakeJson;
-use serde_json::Value;
 use std::alloc::{AllocError, Global};
 use std::marker::Model;
 use trace_lines::Trace;
@@ -26,6 +20,8 @@ pub struct Judging<'t> {
     alloc: Global,
     trace: &'t Trace,
     lines: EntryLines,
+    // behind the place that was found last: records mostly come in order
+    next: usize,
     judgements: Vec<Judged>,
     asked: AskedRules<'t>,
 }
@@ -66,6 +62,7 @@ impl<'t> Judging<'t> {
             alloc,
             trace,
             lines,
+            next: 0,
             judgements,
             asked: AskedRules::new(alloc, trace),
         })
@@ -79,6 +76,7 @@ impl<'t> Judging<'t> {
             alloc: _,
             trace: _,
             lines,
+            next: _,
             judgements,
             asked,
         } = self;
@@ -105,30 +103,6 @@ impl<'t> Judging<'t> {
         }
     }
 
-    /// The judgement of an entry by steps.
-    fn judgement(&mut self, place: usize, steps: &[StepRef<'_>]) -> Result<Judged, AllocError>
-        ensures same { self.new ≡ self.old }
-        ensures judged { IfOk result (λ j. j
-            ≡ judged_by self.old.trace (slice_get self.old.trace.entries place) (borrowed_steps steps.now)) }
-    {
-        judge_at(self.alloc, &mut self.asked, place, steps)
-    }
-
-    #[tactic(auto, unfolding(crate::specs::Judging::put_judged))]
-    fn put(&mut self, place: usize, steps: &[StepRef<'_>]) -> Result<(), EvidenceCause>
-        ensures { Gives (λ _. self.new) result (put_judged self.old place (borrowed_steps steps.now)) }
-    {
-        if self.is_judged(place) {
-            return Err(EvidenceCause::RepeatedLine);
-        }
-        if are_too_many(steps) {
-            return Err(EvidenceCause::TooMany);
-        }
-        let judgement = self.judgement(place, steps)?;
-        self.set(place, judgement);
-        Ok(())
-    }
-
     /// Takes what a record says of its entry.
     #[tactic(auto, unfolding(crate::specs::Alone::settled))]
     pub fn settle(&mut self, verdict: Verdict) -> Result<(), EvidenceCause>
@@ -144,25 +118,6 @@ impl<'t> Judging<'t> {
         self.set(verdict.place, judgement);
         Ok(())
     }
-
-    #[tactic(auto, unfolding(crate::specs::Judging::judge_line))]
-    fn take_record(&mut self, record: &Value) -> Result<(), EvidenceCause>
-        ensures { Gives (λ _. self.new) result (judge_line self.old (view record.now)) }
-    {
-        let (place, steps) = placed_steps(self.alloc, &mut self.lines, record)?;
-        self.put(place, &steps)
-    }
-
-    /// As `take_record`, by the text of a record; None where that is to be read as JSON.
-    fn take_written(&mut self, text: &str) -> Option<Result<(), EvidenceCause>>
-        ensures none { result ≡ None → self.new ≡ self.old }
-        ensures taken { IfSome result (λ r. Gives (λ _. self.new) r (judged_text self.old text.now)) }
-    {
-        match placed_text(self.alloc, &mut self.lines, text)? {
-            Ok((place, steps)) => Some(self.put(place, &steps)),
-            Err(cause) => Some(Err(cause)),
-        }
-    }
 }
 
 impl<'t> TakeJson for Judging<'t> {
@@ -175,11 +130,14 @@ impl<'t> TakeJson for Judging<'t> {
 
     ghost taken = { λ _. judge_line };
 
-    fn take_text(&mut self, _number: u64, text: &str) -> Option<Result<(), EvidenceCause>> {
-        self.take_written(text)
-    }
-
-    fn take_value(&mut self, _number: u64, line: &Value) -> Result<(), EvidenceCause> {
-        self.take_record(line)
+    fn take(&mut self, _number: u64, text: &str) -> Result<(), EvidenceCause> {
+        let verdict = judge_alone(
+            self.alloc,
+            &mut self.asked,
+            &self.lines,
+            &mut self.next,
+            text,
+        )?;
+        self.settle(verdict)
     }
 }

@@ -8,8 +8,8 @@
 //! Callers may rely on this: [`read_evidence`] answers the evidence that its input says, or its first fault, also of
 //! a reader that fails. [`judge_evidence`] judges by it as it is read, and [`judge_evidence_behind`] by that behind
 //! the marker of joined input. A record that is written plainly, with no space and no escape, is taken without a
-//! reader of JSON, to the same end. [`judge_alone`] says what a record says whatever stands before it, so that
-//! threads may share the records, and [`Judging`] is what that is put into. [`judge_entry`] is the definition
+//! reader of JSON, to the same end. [`judge_alone`] says what a record says whatever stands before it, and
+//! [`Judging`] is what that is put into: so [`judge_evidence_by`] has several threads judge the records of a block. [`judge_entry`] is the definition
 //! `judged`. Whoever made the evidence, a supported reply is what the rules mean at the entry's snapshot (Zanzibar,
 //! section 2.3), and a contradicted one is not. The laws in [`laws`] say the same of each accepted step.
 //!
@@ -22,6 +22,7 @@
 mod alone;
 mod asked_rules;
 mod behind;
+mod blocks;
 mod cause;
 mod evidence;
 mod judged;
@@ -29,6 +30,8 @@ mod judging;
 pub mod laws;
 mod placed;
 mod read;
+mod read_by;
+mod record;
 mod recorder;
 mod records;
 mod step;
@@ -44,5 +47,6 @@ pub use judged::{Judged, is_proved_by, judge_entry, judge_steps, judge_steps_by}
 pub use judging::Judging;
 pub use placed::EntryLines;
 pub use read::{judge_evidence, read_evidence};
+pub use read_by::judge_evidence_by;
 pub use records::{MAX_FACTS, has_too_many};
 pub use step::{Step, Steps};

@@ -1,19 +1,18 @@
 //! The records that are read so far.
 
-ghost use Rattle.std.specs.Prelude.{◌≡◌, replicate, slice_get, slice_set, None, Some, IfOk, IfSome};
-ghost use Rattle.serde_json.specs.View.{view};
+ghost use Rattle.std.specs.Prelude.{◌≡◌, replicate, slice_get, slice_set, None, Some, IfOk};
 ghost use Rattle.evidence_check.specs.Causes.{Gives};
-ghost use Rattle.evidence_check.specs.Reading.{is_taken, put_steps, record_line, recorded_text, no_records};
+ghost use Rattle.evidence_check.specs.Reading.{is_taken, put_steps, no_records};
 ghost use Rattle.evidence_check.specs.Evidences.{all_shown};
 ghost use Rattle.evidence_check.specs.Steps.{step_values, borrowed_steps};
 
 use crate::cause::EvidenceCause;
-use crate::placed::{EntryLines, placed_steps, placed_text};
+use crate::placed::EntryLines;
+use crate::record::parse_record;
 use crate::records::are_too_many;
 use crate::step::{StepRef, Steps};
 use crate::steps::copied_steps;
 use json_lines::TakeJson;
-use serde_json::Value;
 use std::alloc::{AllocError, Global};
 use std::marker::Model;
 use trace_lines::Trace;
@@ -22,6 +21,8 @@ use trace_lines::Trace;
 pub(crate) struct Recorder {
     alloc: Global,
     lines: EntryLines,
+    // behind the place that was found last: records mostly come in order
+    next: usize,
     steps: Vec<Option<Steps>>,
 }
 
@@ -62,6 +63,7 @@ impl Recorder {
         Ok(Recorder {
             alloc,
             lines,
+            next: 0,
             steps,
         })
     }
@@ -73,6 +75,7 @@ impl Recorder {
         let Recorder {
             alloc: _,
             lines,
+            next: _,
             steps,
         } = self;
         drop(lines);
@@ -112,25 +115,6 @@ impl Recorder {
         self.set(place, steps);
         Ok(())
     }
-
-    #[tactic(auto, unfolding(crate::specs::Reading::record_line))]
-    fn take_record(&mut self, record: &Value) -> Result<(), EvidenceCause>
-        ensures { Gives (λ _. self.new) result (record_line self.old (view record.now)) }
-    {
-        let (place, steps) = placed_steps(self.alloc, &mut self.lines, record)?;
-        self.put(place, &steps)
-    }
-
-    /// As `take_record`, by the text of a record; None where that is to be read as JSON.
-    fn take_written(&mut self, text: &str) -> Option<Result<(), EvidenceCause>>
-        ensures none { result ≡ None → self.new ≡ self.old }
-        ensures taken { IfSome result (λ r. Gives (λ _. self.new) r (recorded_text self.old text.now)) }
-    {
-        match placed_text(self.alloc, &mut self.lines, text)? {
-            Ok((place, steps)) => Some(self.put(place, &steps)),
-            Err(cause) => Some(Err(cause)),
-        }
-    }
 }
 
 impl TakeJson for Recorder {
@@ -143,11 +127,13 @@ impl TakeJson for Recorder {
 
     ghost taken = { λ _. record_line };
 
-    fn take_text(&mut self, _number: u64, text: &str) -> Option<Result<(), EvidenceCause>> {
-        self.take_written(text)
-    }
-
-    fn take_value(&mut self, _number: u64, line: &Value) -> Result<(), EvidenceCause> {
-        self.take_record(line)
+    fn take(&mut self, _number: u64, text: &str) -> Result<(), EvidenceCause> {
+        let mut value = None;
+        let record = parse_record(self.alloc, text, &mut value)?;
+        let place = self
+            .lines
+            .seek(&mut self.next, record.line)
+            .ok_or(EvidenceCause::StrayLine)?;
+        self.put(place, &record.steps)
     }
 }

@@ -9,6 +9,7 @@ ghost use Rattle.evidence_check.specs.RecordPieces.{BeginsWithFact, BeginsWithFa
 ghost use Rattle.evidence_check.specs.RecordPieces.{BeginsWithStep, BeginsWithSteps, IsRecord};
 ghost use Rattle.evidence_check.specs.Steps.{borrowed_step, borrowed_steps};
 
+use crate::record::RecordRef;
 use crate::step::StepRef;
 use compact_json::behind;
 use std::alloc::Global;
@@ -64,14 +65,14 @@ fn steps_before(alloc: Global, text: &str) -> Option<(Vec<StepRef<'_>>, &str)>
     Some((steps, rest))
 }
 
-/// The line that a record names, and its steps.
-pub(crate) fn written_record(alloc: Global, text: &str) -> Option<(u64, Vec<StepRef<'_>>)>
-    ensures { IfSome result (λ p. IsRecord text.now p.0 (borrowed_steps p.1.items)) }
+/// The record that a text is.
+pub(crate) fn written_record(alloc: Global, text: &str) -> Option<RecordRef<'_>>
+    ensures { IfSome result (λ r. IsRecord text.now r.line (borrowed_steps r.steps.items)) }
 {
     let (line, rest) = number_before(behind(text, "{\"line\":")?)?;
     let (steps, rest) = steps_before(alloc, behind(rest, ",\"steps\":[")?)?;
     if rest != "]}" {
         return None;
     }
-    Some((line, steps))
+    Some(RecordRef { line, steps })
 }

@@ -1,18 +1,14 @@
--- A line that is a value, and one that is none.
-use Rattle.std.proofs.Common.{◌≡◌, ℕ, Bool, true, false, List, Option, Some, None, Result, Ok, Err, OnOk, IfErr, refl, ◌∙◌, inl, inr, IsUtf8}
+-- A line that is text, and one that is none.
+use Rattle.std.proofs.Common.{◌≡◌, ℕ, Bool, true, false, List, Option, Some, None, Result, Ok, Err, OnOk, IfErr, ap, refl, ◌∙◌, inl, inr, IsUtf8}
 use Rattle.std.specs.Str.{is_utf8}
 use Rattle.std.proofs.lemmas.Bool.{cases_Bool}
 use Rattle.std.proofs.lemmas.Str.{IsUtf8-from_is_utf8, is_utf8-from_IsUtf8}
 use Rattle.serde_json.specs.Data.{Data}
 use Rattle.serde_json.specs.Read.{read}
-use Rattle.refusals.specs.Refusals.{Gives, Unless}
+use Rattle.refusals.specs.Refusals.{◌>>=◌, Fails, Gives, Unless}
 use Rattle.refusals.proofs.Steps.{ErrHas, either_refused}
 use Rattle.json_lines.specs.Json.{is_blank, of_json, json_line, taken_line}
 use Rattle.json_lines.specs.Reading.{Refuses, stopped}
-
-pub of_a_value : {S C : Type 0} (not_json : C) (taken : Data → Result S C) (bytes : List ℕ) (d : Data) → IsUtf8 bytes → read bytes ≡ Some d → json_line not_json taken bytes ≡ taken d
-unfolding json_line
-of_a_value not_json taken bytes d u e = rw (is_utf8-from_IsUtf8 bytes u, e) refl
 
 pub of_no_value : {S C : Type 0} (not_json : C) (taken : Data → Result S C) (bytes : List ℕ) → (IsUtf8 bytes → read bytes ≡ None) → json_line not_json taken bytes ≡ Err not_json
 unfolding json_line
@@ -41,6 +37,20 @@ of_no_blank not_json taken n s line h = rw h refl
 pub of_a_text : {S C : Type 0} (not_json : C) (taken : Data → Result S C) (bytes : List ℕ) → IsUtf8 bytes → json_line not_json taken bytes ≡ of_json not_json taken (read bytes)
 unfolding json_line
 of_a_text not_json taken bytes u = rw (is_utf8-from_IsUtf8 bytes u) refl
+
+-- ---- a line of which a step takes what its value says
+
+pub json_then : {A B C : Type 0} (not_json : C) (o : Option Data) (f : Data → Result A C) (g : A → Result B C) → of_json not_json (λ d. f d >>= g) o ≡ (of_json not_json f o >>= g)
+json_then not_json None f g = refl
+json_then not_json (Some d) f g = refl
+
+-- a refusal stays one, whatever step stands behind it
+pub fails_then : {A B C : Type 0} (is_open : C → Bool) (c : C) (r : Result A C) (g : A → Result B C) → Fails is_open c r → Fails is_open c (r >>= g)
+fails_then {A} is_open c r g told = by_test (is_open c) told
+  where
+    by_test : (b : Bool) → Unless b (r ≡ Err c) → Unless b ((r >>= g) ≡ Err c)
+    by_test true told = tt
+    by_test false told = ap (λ (s : Result A _). s >>= g) told
 
 -- ---- a line that is answered as what it makes
 

@@ -51,7 +51,6 @@ fn is_marker(sought: bool, whole: bool, line: &[u8]) -> bool
 
 /// Takes a line of which all is there, and refuses another.
 fn take_whole<T: TakeJson>(
-    alloc: Global,
     value: &mut T,
     number: u64,
     line: &[u8],
@@ -71,7 +70,7 @@ fn take_whole<T: TakeJson>(
             stop: Stop::Input(InputFault::TooLong),
         }));
     }
-    match take_line(alloc, value, number, line) {
+    match take_line(value, number, line) {
         Ok(()) => Ok(Ok(())),
         Err(Stop::Line(cause)) => Ok(Err(LineFault {
             line: number,
@@ -220,7 +219,7 @@ impl Rest {
                 return Ok((read, true));
             }
             if read.is_ok() {
-                read = take_whole(alloc, value, number, &line, whole)?;
+                read = take_whole(value, number, &line, whole)?;
                 number += 1;
             }
         }

@@ -88,7 +88,7 @@ pub fn read_lines<R: Source, T: TakeJson>(
                 stop: Stop::Input(InputFault::TooLong),
             });
         }
-        if let Err(stop) = take_line(alloc, value, number, &line) {
+        if let Err(stop) = take_line(value, number, &line) {
             return Err(LineFault { line: number, stop });
         }
         if !more {

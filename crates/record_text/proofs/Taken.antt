@@ -3,9 +3,9 @@ use Rattle.std.proofs.Common.{◌≡◌, ℕ, zero, suc, ◌+◌, ◌-◌, ◌<�
 use Rattle.std.specs.Prelude.{slice_get}
 use Rattle.std.proofs.lemmas.Bool.{le-ltb, ne_eqb}
 use Rattle.refusals.specs.Refusals.{◌>>=◌, needed}
-use Rattle.json_lines.specs.Json.{taken_line}
+use Rattle.json_lines.specs.Json.{of_json, taken_line}
 use Rattle.json_lines.specs.Reading.{parts, read_from, read_all}
-use Rattle.json_lines.proofs.JsonLines.{of_a_value, of_no_blank}
+use Rattle.json_lines.proofs.JsonLines.{of_a_text, of_no_blank}
 use Rattle.json_lines.proofs.Folds.{goes_first, goes_on, within_from}
 use Rattle.trace_lines.specs.Values.{EntryValue}
 use Rattle.evidence_check.specs.Reading.{fact_count, place_of, put_steps, record_line, no_records, faulted}
@@ -34,7 +34,8 @@ line_of_record line steps r facts = rw (data_placed r.lines line steps facts) (p
 pub is_taken : (line : ℕ) (steps : List StepValue) → line < 2 ^ 64 → HaveFacts steps → IsUtf8 (record_text line steps) → IsTaken line steps
 is_taken line steps fits facts utf8 n r =
     of_no_blank causes.NotJson (λ n. record_line) n r (record_text line steps) refl
-    ∙ of_a_value causes.NotJson (record_line r) (record_text line steps) (record_data line steps) utf8 (read-record line steps fits)
+    ∙ of_a_text causes.NotJson (record_line r) (record_text line steps) utf8
+    ∙ ap (of_json causes.NotJson (record_line r)) (read-record line steps fits)
     ∙ line_of_record line steps r facts
 
 none_taken : (count place : ℕ) → records.is_taken (slice_get (replicate count None) place) ≡ false

@@ -7,14 +7,16 @@ pub mod IssuedVersions
 pub mod IssuerWalk
 pub mod Keeping
 pub mod LineCauses
+pub mod LinesOfTrace
 pub mod LineSplits
-pub mod OfBytes
 pub mod MoreMembers
+pub mod OfBytes
 pub mod Orderly
 pub mod Placing
 pub mod Recording
 pub mod RefusedEdges
 pub mod RisingLines
+pub mod ToldLines
 pub mod ToldTuples
 pub mod TraceTold
 pub mod WrittenCommits

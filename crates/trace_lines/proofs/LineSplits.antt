@@ -8,7 +8,7 @@ use Rattle.refusals.specs.Refusals.{◌>>=◌}
 use Rattle.json_lines.specs.Fields.{number_at, flag_at, text_at, optional_text_at}
 use Rattle.json_lines.specs.Json.{of_json}
 use Rattle.trace_lines.specs.Causes.{needed}
-use Rattle.trace_lines.specs.LineValues.{commits, line_said, placed_at, put_line, records, said_of_kind}
+use Rattle.trace_lines.specs.LineValues.{commits, line_of_text, line_said, placed_at, put_line, records, said_of_kind}
 use Rattle.trace_lines.specs.Texts.{goal_of, token_of, version_at}
 use Rattle.trace_lines.specs.Traces.{commit_line, commit_of, declaration_line, entry_line, entry_of, of_kind, value_line, with_commit, with_entry}
 use Rattle.trace_lines.specs.Values.{EntryValue, TraceValue}
@@ -69,3 +69,13 @@ module _ (n : ℕ) (t : TraceValue) where
       → value_line n t d ≡ (line_said text d >>= put_line n t)
   unfolding value_line line_said
   line_splits text d is = kind_splits text d (option_and_then as_str (get (codes "kind") d)) is
+
+  -- a line of this text
+  pub text_splits : (text : List ℕ)
+      → of_json causes.NotJson (value_line n t) (read text) ≡ (line_of_text text >>= put_line n t)
+  text_splits text = by_value (read text) refl
+    where
+      by_value : (o : Option Data) → read text ≡ o
+          → of_json causes.NotJson (value_line n t) o ≡ (of_json causes.NotJson (line_said text) o >>= put_line n t)
+      by_value None is = refl
+      by_value (Some d) is = line_splits text d is

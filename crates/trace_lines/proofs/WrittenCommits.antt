@@ -19,8 +19,7 @@ use Rattle.json_lines.specs.Fields.{are_strings, strings_of}
 use Rattle.json_lines.specs.Json.{of_json as line_of_json}
 use Rattle.trace_lines.specs.LineValues.{commits, line_said}
 use Rattle.trace_lines.specs.Texts.{tuples_of}
-use Rattle.trace_lines.specs.Traces.{commit_line, commit_of, value_line, with_commit}
-use Rattle.trace_lines.specs.Values.{TraceValue}
+use Rattle.trace_lines.specs.Traces.{commit_of}
 use Rattle.trace_lines.specs.Written.{AreTuples, IsCommit, IsMore, commit_members, commit_spelled, list_text, listed, more_members, optional_list, put_more, tuples_data, with_tuples}
 use Rattle.trace_lines.specs.declared.cause.Cause.TheVariants as causes
 use Rattle.trace_lines.proofs.MoreMembers.{asked, more_are_flat, more_make, more_numbers}
@@ -177,17 +176,10 @@ is_commit text rest at adds removes same fits fine fine_too more =
           (asked 8 (omega arith) more.0 ms more.2 ∙ remove_there at adds removes) fine fine_too,
     )
 
-of_its_kind : (d : Data) (n : ℕ) (t : TraceValue) → get (codes "kind") d ≡ Some (string (codes "commit")) → value_line n t d ≡ commit_line n t d
-unfolding value_line
-of_its_kind d n t is = rw is refl
-
 told_of_its_kind : (d : Data) (text : List ℕ) → get (codes "kind") d ≡ Some (string (codes "commit")) → line_said text d ≡ (commit_of d >>= λ c. Ok (commits c))
 unfolding line_said
 told_of_its_kind d text is = rw is refl
 
 module _ (c : Commit) (text : List ℕ) (is : IsCommit text c) where
-  pub commit_made : (n : ℕ) (t : TraceValue) → line_of_json causes.NotJson (value_line n t) (read text) ≡ with_commit n t c
-  commit_made n t = ap (line_of_json causes.NotJson (value_line n t)) is.1 ∙ of_its_kind is.0 n t is.2 ∙ ap (λ r. r >>= with_commit n t) is.3
-
   pub commit_told : line_of_json causes.NotJson (line_said text) (read text) ≡ Ok (commits c)
   commit_told = ap (line_of_json causes.NotJson (line_said text)) is.1 ∙ told_of_its_kind is.0 text is.2 ∙ ap (λ r. r >>= λ c. Ok (commits c)) is.3

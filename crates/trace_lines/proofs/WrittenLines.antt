@@ -12,11 +12,11 @@ use Rattle.json_lines.specs.Fields.{optional_text_of}
 use Rattle.json_lines.specs.Json.{of_json as line_of_json}
 use Rattle.refusals.specs.Refusals.{◌>>=◌}
 use Rattle.compact_json.proofs.Compact.{quoted_then, read_compact}
-use Rattle.trace_lines.specs.LineValues.{entry_told, line_said, records}
-use Rattle.trace_lines.specs.Said.{said_line}
+use Rattle.trace_lines.specs.LineValues.{line_of_text, line_said, records}
+use Rattle.trace_lines.specs.Said.{entry_said}
 use Rattle.trace_lines.specs.Texts.{fits_reply, goal_of, is_label, label_in, token_of, version_in}
-use Rattle.trace_lines.specs.Traces.{entry_line, entry_of, value_line, with_entry}
-use Rattle.trace_lines.specs.Values.{EntryValue, TraceValue}
+use Rattle.trace_lines.specs.Traces.{entry_of}
+use Rattle.trace_lines.specs.Values.{EntryValue}
 use Rattle.trace_lines.specs.Written.{AreFree, ArePlain, IsCheck, IsMore, IsPlain, check_members, check_spelled, fields_text, kind_name, more_members, optional_text, put_more, said_text, with_text}
 use Rattle.trace_lines.specs.declared.cause.Cause.{Cause}
 use Rattle.trace_lines.specs.declared.cause.Cause.TheVariants as causes
@@ -158,11 +158,6 @@ is_check text rest kind s same plain more given =
     named None e = e
     named (Some t) e = e
 
-of_its_kind : (kind : EntryKind) (d : Data) (n : ℕ) (t : TraceValue) → get (codes "kind") d ≡ Some (string (kind_name kind)) → value_line n t d ≡ entry_line kind n t d
-unfolding value_line
-of_its_kind Check d n t is = rw is refl
-of_its_kind Content d n t is = rw is refl
-
 told_of_its_kind : (kind : EntryKind) (d : Data) (text : List ℕ) → get (codes "kind") d ≡ Some (string (kind_name kind))
     → line_said text d ≡ (entry_of kind 0 0 d >>= λ e. Ok (records e))
 unfolding line_said
@@ -170,10 +165,6 @@ told_of_its_kind Check d text is = rw is refl
 told_of_its_kind Content d text is = rw is refl
 
 module _ (kind : EntryKind) (s : Said) (text : List ℕ) (is : IsCheck text kind s) where
-  pub line_made : (n : ℕ) (t : TraceValue) → line_of_json causes.NotJson (value_line n t) (read text) ≡ said_line kind n t s
-  line_made n t =
-      ap (line_of_json causes.NotJson (value_line n t)) is.1 ∙ of_its_kind kind is.0 n t is.2 ∙ ap (λ r. r >>= with_entry t) (is.3 n (length t.commits))
-
-  pub line_told : line_of_json causes.NotJson (line_said text) (read text) ≡ entry_told kind s
+  pub line_told : line_of_text text ≡ (entry_said kind 0 0 (Some s) >>= λ e. Ok (records e))
   line_told =
       ap (line_of_json causes.NotJson (line_said text)) is.1 ∙ told_of_its_kind kind is.0 text is.2 ∙ ap (λ r. r >>= λ e. Ok (records e)) (is.3 0 0)

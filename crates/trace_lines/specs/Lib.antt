@@ -6,6 +6,7 @@ pub mod Issued
 pub mod Kept
 pub mod KeptEntries
 pub mod LineCode
+pub mod LinesTold
 pub mod LineValues
 pub mod LineViews
 pub mod Placed

@@ -6,12 +6,10 @@ use Rattle.serde_json.specs.Read.{read}
 use Rattle.version_chains.specs.Commits.{Commit}
 use Rattle.refusals.specs.Refusals.{◌>>=◌}
 use Rattle.json_lines.specs.Json.{of_json}
-use Rattle.trace_lines.specs.Said.{entry_said}
 use Rattle.trace_lines.specs.Traces.{commit_of, declaration_line, entry_of, with_commit, with_entry}
 use Rattle.trace_lines.specs.Values.{EntryValue, TraceValue}
 use Rattle.trace_lines.specs.declared.cause.Cause.{Cause}
 use Rattle.trace_lines.specs.declared.cause.Cause.TheVariants as causes
-use Rattle.trace_lines.specs.declared.checks.Said.{Said}
 use Rattle.trace_lines.specs.declared.entry.EntryKind.{EntryKind}
 use Rattle.trace_lines.specs.declared.entry.EntryKind.TheVariants.{Check, Content}
 
@@ -40,9 +38,9 @@ said_of_kind text d (Some kind) =
 unfoldable pub line_said : List ℕ → Data → Result LineValue Cause
 line_said text d = said_of_kind text d (option_and_then as_str (get (codes "kind") d))
 
--- what a line says that says this of a check
-abbrev pub entry_told : EntryKind → Said → Result LineValue Cause
-entry_told kind s = entry_said kind 0 0 (Some s) >>= λ e. Ok (records e)
+-- what a line of this text says
+abbrev pub line_of_text : List ℕ → Result LineValue Cause
+line_of_text text = of_json causes.NotJson (line_said text) (read text)
 
 -- the entry on line n, behind so many commits
 abbrev pub placed_at : ℕ → ℕ → EntryValue → EntryValue

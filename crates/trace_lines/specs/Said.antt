@@ -1,9 +1,8 @@
--- What the fields of a check or a commit say, each of its shape.
-use Rattle.std.specs.Prelude.{ℕ, length, Option, None, Some, Result, Ok, Err, option_map}
+-- What the fields of a check say, each of its shape.
+use Rattle.std.specs.Prelude.{ℕ, Option, None, Some, Result, Ok, Err, option_map}
 use Rattle.refusals.specs.Refusals.{◌>>=◌}
 use Rattle.trace_lines.specs.Texts.{goal_of, token_of}
-use Rattle.trace_lines.specs.Traces.{with_entry}
-use Rattle.trace_lines.specs.Values.{EntryValue, TraceValue}
+use Rattle.trace_lines.specs.Values.{EntryValue}
 use Rattle.trace_lines.specs.declared.cause.Cause.{Cause}
 use Rattle.trace_lines.specs.declared.cause.Cause.TheVariants as causes
 use Rattle.trace_lines.specs.declared.entry.EntryKind.{EntryKind}
@@ -24,7 +23,3 @@ entry_said kind n before (Some s) =
       version = option_map (λ t. t.now) s.version;
       before = before;
     })
-
--- what line n that says this makes of a trace
-abbrev pub said_line : EntryKind → ℕ → TraceValue → Said → Result TraceValue Cause
-said_line kind n t s = entry_said kind n (length t.commits) (Some s) >>= with_entry t

@@ -1,22 +1,18 @@
 //! Traces that are read, line by line.
 
-ghost use Rattle.std.specs.Prelude.{◌≡◌, ◌+◌, ◌≤◌, Some, None, IfSome, [], length, take, true, ◌++◌, option_map, option_and_then, Ok, OnOk, OnErr};
+ghost use Rattle.std.specs.Prelude.{◌≡◌, ◌+◌, ◌≤◌, Some, None, [], length, take, true, ◌++◌, option_map, option_and_then, Ok, OnOk, OnErr};
 ghost use Rattle.std.specs.Option.{ForSome};
-ghost use Rattle.serde_json.specs.Read.{read};
 ghost use Rattle.serde_json.specs.View.{view};
-ghost use Rattle.json_lines.specs.Json.{of_json};
 ghost use Rattle.tuple_text.specs.Refs.{set_value};
 ghost use Rattle.tuple_text.specs.TupleRefs.{tuple_values};
 ghost use Rattle.trace_lines.specs.Causes.{Gives};
 ghost use Rattle.edge_checks.specs.Indexed.{IsIndex};
 ghost use Rattle.trace_lines.specs.LineValues.{commits, declares, put_line, records};
-ghost use Rattle.trace_lines.specs.LineViews.{commit_value};
-ghost use Rattle.trace_lines.specs.Said.{said_line};
+ghost use Rattle.trace_lines.specs.LineViews.{IsOfItsText, line_value};
 ghost use Rattle.trace_lines.specs.EntryViews.{entry_value};
 ghost use Rattle.trace_lines.specs.Values.{empty_trace, next_line};
-ghost use Rattle.trace_lines.specs.Traces.{is_declared, are_declared, is_begun, namespace_line, change_line, declaration_line, commit_checked, commit_of, with_commit, commit_line, entry_of, recorded, with_entry, entry_line, value_line};
+ghost use Rattle.trace_lines.specs.Traces.{is_declared, are_declared, is_begun, namespace_line, change_line, declaration_line, commit_checked, with_commit, recorded, with_entry};
 ghost use Rattle.trace_lines.specs.Versions.{entry_version, version_issued, issuer, content_among};
-ghost use Rattle.trace_lines.specs.declared.cause.Cause.TheVariants.{NotJson};
 ghost use Rattle.trace_lines.specs.declared.entry.EntryKind.TheVariants.{Content};
 ghost use Rattle.version_chains.specs.Appends.{appended, late_fault, last_at};
 ghost use Rattle.version_chains.specs.declared.fault.AppendFault.TheVariants.{NotLater};
@@ -27,18 +23,15 @@ ghost use Rattle.namespaces.specs.Changing.{IsLater};
 ghost use Rattle.userset_index.specs.Index.{IsUsersetIndex};
 
 use crate::cause::Cause;
-use crate::checks::{self, entry_from, entry_of};
-use crate::commits::{CommitRef, commit_of};
 use crate::declaring::{change, declare, late_change};
 use crate::entries::{Entries, OwnedEntry};
 use crate::entry::{Entry, EntryKind};
+use crate::line::{Line, Said, TraceLine, parse_line};
 use crate::owned::OwnedCommit;
-use crate::told::{Said, TraceLine};
 use crate::trace::Trace;
 use crate::versions::{Versions, version_of};
-use crate::written::{check_written, commit_written};
 use edge_checks::{EdgeIndex, Sample, is_of_relation};
-use json_lines::fields::{optional_number_at, text_at};
+use json_lines::fields::optional_number_at;
 use json_lines::{TakeJson, read_value};
 use namespaces::{Rules, RulesFault};
 use serde_json::Value;
@@ -305,23 +298,6 @@ impl TraceBuilder {
         if at <= *last { Some(*last) } else { None }
     }
 
-    /// Takes a line that commits changes.
-    fn take_commit(&mut self, line: u64, value: &Value) -> Result<(), Cause>
-        requires { next_line self.old ≤ line }
-        ensures { Gives (λ _. self.new) result (commit_line line self.old (view value.now)) }
-    {
-        let commit = commit_of(self.alloc, value)?;
-        self.append_commit(line, &commit)
-    }
-
-    /// Takes what a line commits.
-    fn append_commit(&mut self, line: u64, commit: &CommitRef<'_>) -> Result<(), Cause>
-        requires { next_line self.old ≤ line }
-        ensures { Gives (λ _. self.new) result (with_commit line self.old (commit_value commit.now)) }
-    {
-        self.append(line, commit.at, &commit.adds, &commit.removes)
-    }
-
     #[tactic(auto, unfolding(crate::specs::Traces::with_commit))]
     fn append(
         &mut self,
@@ -363,56 +339,17 @@ impl TraceBuilder {
         Ok(())
     }
 
-    /// Takes a line that records a check.
-    fn take_entry(&mut self, kind: EntryKind, line: u64, value: &Value) -> Result<(), Cause>
-        requires { next_line self.old ≤ line }
-        ensures { Gives (λ _. self.new) result (entry_line kind line self.old (view value.now)) }
-    {
-        match entry_of(kind, line, self.commit_lines.len(), value) {
-            Ok(entry) => self.take_recorded(&entry),
-            Err(cause) => Err(cause),
-        }
-    }
-
-    /// Takes a line that says this of a check.
-    fn take_said(&mut self, kind: EntryKind, line: u64, said: checks::Said<'_>) -> Result<(), Cause>
-        requires { next_line self.old ≤ line }
-        ensures { Gives (λ _. self.new) result (said_line kind line self.old said.entry) }
-    {
-        match entry_from(kind, line, self.commit_lines.len(), said) {
-            Ok(entry) => self.take_recorded(&entry),
-            Err(cause) => Err(cause),
-        }
-    }
-
-    /// Takes a line of this text, where it is written plainly.
-    fn take_written(&mut self, line: u64, text: &str) -> Option<Result<(), Cause>>
-        requires { next_line self.old ≤ line }
-        ensures none { result ≡ None → self.new ≡ self.old }
-        ensures answer { IfSome result
-            (λ r. Gives (λ _. self.new) r (of_json NotJson (value_line line self.old) (read text.now))) }
-    {
-        if let Some((kind, said)) = check_written(text) {
-            return Some(self.take_said(kind, line, said));
-        }
-        match commit_written(self.alloc, text) {
-            Ok(Some(commit)) => Some(self.append_commit(line, &commit)),
-            Ok(None) => None,
-            Err(_) => Some(Err(Cause::OutOfMemory)),
-        }
-    }
-
-    /// Takes an entry that stands behind all others.
+    /// Takes an entry that stands on this line, behind all others.
     #[tactic(auto, unfolding(crate::specs::Traces::with_entry))]
-    fn take_recorded(&mut self, entry: &Entry<'_>) -> Result<(), Cause>
-        requires line { next_line self.old ≤ entry.now.line }
-        requires before { entry.now.before ≡ length self.old.commit_lines }
-        ensures { Gives (λ _. self.new) result (with_entry self.old (entry_value entry.now)) }
+    fn take_entry(&mut self, line: u64, entry: &Entry<'_>) -> Result<(), Cause>
+        requires { next_line self.old ≤ line }
+        ensures { Gives (λ _. self.new) result (put_line line self.old (records (entry_value entry.now))) }
     {
         if !self.is_declared(entry.goal.set()) {
             return Err(Cause::Unknown);
         }
-        self.record(entry)
+        let placed = entry.placed(line, self.commit_lines.len());
+        self.record(&placed)
     }
 
     /// Puts an entry that stands behind all others last.
@@ -471,29 +408,6 @@ impl TraceBuilder {
         Ok(())
     }
 
-    #[tactic(auto, unfolding(crate::specs::Traces::value_line))]
-    fn take(&mut self, line: u64, value: &Value) -> Result<(), Cause>
-        requires { next_line self.old ≤ line }
-        ensures { Gives (λ _. self.new) result (value_line line self.old (view value.now)) }
-    {
-        match text_at(value, "kind") {
-            Some(kind) => {
-                if kind == "namespace" {
-                    self.take_declaration(line, value)
-                } else if kind == "commit" {
-                    self.take_commit(line, value)
-                } else if kind == "content" {
-                    self.take_entry(EntryKind::Content, line, value)
-                } else if kind == "check" {
-                    self.take_entry(EntryKind::Check, line, value)
-                } else {
-                    Err(Cause::Kind)
-                }
-            }
-            None => Err(Cause::Kind),
-        }
-    }
-
     /// Takes a line of this text that declares a namespace.
     fn put_declaration(&mut self, line: u64, text: &str) -> Result<(), Cause>
         requires { next_line self.old ≤ line }
@@ -515,17 +429,28 @@ impl TraceBuilder {
     }
 
     #[tactic(auto, unfolding(crate::specs::Traces::with_entry))]
-    fn put_entry(&mut self, line: u64, told: &OwnedEntry) -> Result<(), Cause>
+    fn put_entry(&mut self, line: u64, entry: &OwnedEntry) -> Result<(), Cause>
         requires { next_line self.old ≤ line }
-        ensures { Gives (λ _. self.new) result (put_line line self.old (records told.now)) }
+        ensures { Gives (λ _. self.new) result (put_line line self.old (records entry.now)) }
     {
-        if !self.is_declared(told.goal().set()) {
+        if !self.is_declared(entry.goal().set()) {
             return Err(Cause::Unknown);
         }
-        let mut entry = told.as_entry();
-        entry.line = line;
-        entry.before = self.commit_lines.len();
-        self.record(&entry)
+        let placed = entry.as_entry().placed(line, self.commit_lines.len());
+        self.record(&placed)
+    }
+
+    /// Puts in what a line says that is borrowed.
+    fn put(&mut self, number: u64, line: &Line<'_>) -> Result<(), Cause>
+        requires next { next_line self.old ≤ number }
+        requires of_text { IsOfItsText line.now }
+        ensures { Gives (λ _. self.new) result (put_line number self.old (line_value line.now)) }
+    {
+        match line {
+            Line::Declares(declaration) => self.take_declaration(number, declaration.value),
+            Line::Commits(commit) => self.append(number, commit.at, &commit.adds, &commit.removes),
+            Line::Records(entry) => self.take_entry(number, entry),
+        }
     }
 
     /// Puts in what the line of this number says.
@@ -553,11 +478,9 @@ impl TakeJson for TraceBuilder {
 
     ghost taken = { value_line };
 
-    fn take_text(&mut self, number: u64, text: &str) -> Option<Result<(), Cause>> {
-        self.take_written(number, text)
-    }
-
-    fn take_value(&mut self, number: u64, line: &Value) -> Result<(), Cause> {
-        self.take(number, line)
+    fn take(&mut self, number: u64, text: &str) -> Result<(), Cause> {
+        let mut value = None;
+        let line = parse_line(self.alloc, text, &mut value)?;
+        self.put(number, &line)
     }
 }

@@ -1,5 +1,9 @@
 //! Recorded decisions.
 
+ghost use Rattle.std.specs.Prelude.{◌≡◌};
+ghost use Rattle.trace_lines.specs.EntryViews.{entry_value};
+ghost use Rattle.trace_lines.specs.LineValues.{placed_at};
+
 use tuple_text::FactRef;
 use zookie::Zookie;
 
@@ -28,4 +32,22 @@ pub struct Entry<'a> {
     pub version: Option<&'a str>,
     /// How many commits stand on earlier lines.
     pub before: usize,
+}
+
+impl<'a> Entry<'a> {
+    /// The same decision on this line, behind so many commits.
+    pub(crate) fn placed(&self, line: u64, before: usize) -> Entry<'a>
+        ensures { entry_value result ≡ placed_at line before (entry_value self.now) }
+    {
+        Entry {
+            kind: self.kind,
+            reply: self.reply,
+            line,
+            goal: self.goal,
+            snapshot: self.snapshot,
+            zookie: self.zookie,
+            version: self.version,
+            before,
+        }
+    }
 }

@@ -5,8 +5,8 @@
 //! declarations, its commits with the lines that they stand on, and its entries. A [`TraceBuilder`] takes the lines.
 //! It has what reading alone needs, the sample, the index of edges and the versions, and lets go of that when it
 //! makes its trace. [`TraceLine`] is what a line says by itself, and [`TraceBuilder::put_line`] puts that into a
-//! builder: so several threads may tell what lines say. A check or a commit that is written plainly is taken by its
-//! text.
+//! builder: so [`read_trace_by`] has several threads tell what the lines of a block say, while one puts that in. A
+//! check or a commit that is written plainly is taken by its text.
 //!
 //! Callers may rely on this: what is read is `trace_of` the bytes, value or first fault, with its line, also of a
 //! reader that fails. Input that never ends is refused at the limits. Commits and entries stand on lines that rise.
@@ -21,6 +21,7 @@
 //! ```
 #![tactic(auto)]
 
+mod blocks;
 mod builder;
 mod cause;
 mod checks;
@@ -30,10 +31,11 @@ mod entries;
 mod entry;
 mod front;
 pub mod laws;
+mod line;
 mod owned;
 mod read;
+mod read_by;
 mod texts;
-mod told;
 mod trace;
 mod version_ref;
 mod versions;
@@ -44,6 +46,7 @@ pub use cause::{Cause, TraceFault};
 pub use devices::{Counted, Failing, Sink, Source, Unsent, send};
 pub use entry::{Entry, EntryKind};
 pub use front::{TraceFront, read_trace_front};
+pub use line::TraceLine;
 pub use read::read_trace;
-pub use told::TraceLine;
+pub use read_by::read_trace_by;
 pub use trace::Trace;

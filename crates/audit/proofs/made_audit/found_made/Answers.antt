@@ -5,7 +5,7 @@ use Rattle.std.proofs.lemmas.Result.{IfOk-weaker}
 use Rattle.std.specs.List.{AllZip, flat_map, range_with_len}
 use Rattle.audit_slices.specs.Reports.{report_items}
 use Rattle.audit.specs.MadeAudit.{IsFoundMade}
-use Rattle.evidence_blocks.proofs.TraceSync.{trace_sync}
+use Rattle.evidence_check.proofs.TraceSync.{trace_sync}
 use Rattle.audit.proofs.made_audit.found_made.Goals as goal
 
 pub returns : goal.returns

@@ -6,7 +6,7 @@ use Rattle.std.specs.List.{flat_map, range_with_len}
 use Rattle.audit_slices.specs.Reports.{report_items}
 use Rattle.audit.specs.Shared.{all_judged}
 use Rattle.audit.proofs.SharedLemmas.{all_are_judged}
-use Rattle.evidence_blocks.proofs.TraceSync.{trace_sync}
+use Rattle.evidence_check.proofs.TraceSync.{trace_sync}
 use Rattle.audit.proofs.shared.found_by.Goals as goal
 
 pub returns-clause-found : goal.returns-clause-found

@@ -1,2 +1,0 @@
-pub mod LinesOfTrace
-pub mod ToldLines
