@@ -15,9 +15,14 @@ use Rattle.evidence_check.specs.declared.alone.Verdict.{Verdict}
 use Rattle.evidence_check.specs.declared.cause.EvidenceCause.{EvidenceCause}
 use Rattle.evidence_check.specs.declared.cause.EvidenceCause.TheVariants as causes
 use Rattle.evidence_check.specs.declared.judged.Judged.{Judged}
+use Rattle.evidence_check.proofs.RecordSteps.{placed}
 use Rattle.evidence_check.proofs.StepLoops.{at_place, placed_splits}
 
 -- ---- what a record says by itself
+
+-- the verdict of steps at the place of their entry
+abbrev verdict_at : TraceValue → ℕ × List StepValue → Result Verdict EvidenceCause
+verdict_at t q = Ok (record { place = q.0; judgement = judgement_at t q.0 q.1 })
 
 abbrev pub verdict_by : TraceValue → List ℕ → RecordValue → Result Verdict EvidenceCause
 verdict_by t lines x = needed causes.StrayLine (place_of x.line lines)
@@ -26,17 +31,17 @@ verdict_by t lines x = needed causes.StrayLine (place_of x.line lines)
 verdict_splits : (t : TraceValue) (lines : List ℕ) (d : Data) → verdict_in t lines d ≡ (record_in d >>= verdict_by t lines)
 unfolding verdict_in
 verdict_splits t lines d =
-    ap (λ (p : Result (ℕ × List StepValue) EvidenceCause). p >>= λ q. Ok (record { place = q.0; judgement = judgement_at t q.0 q.1 })) (placed_splits lines d)
+    ap (λ (p : Result (ℕ × List StepValue) EvidenceCause). p >>= verdict_at t) (placed_splits lines d)
     ∙ by_record (record_in d)
   where
     by_place : (o : Option ℕ) (ss : List StepValue)
-        → ((needed causes.StrayLine o >>= λ p. Ok (p, ss)) >>= λ q. Ok (record { place = q.0; judgement = judgement_at t q.0 q.1 }))
+        → ((needed causes.StrayLine o >>= placed ss) >>= verdict_at t)
         ≡ (needed causes.StrayLine o >>= λ p. Ok (record { place = p; judgement = judgement_at t p ss }))
     by_place None ss = refl
     by_place (Some p) ss = refl
 
     by_record : (x : Result RecordValue EvidenceCause)
-        → ((x >>= at_place lines) >>= λ q. Ok (record { place = q.0; judgement = judgement_at t q.0 q.1 })) ≡ (x >>= verdict_by t lines)
+        → ((x >>= at_place lines) >>= verdict_at t) ≡ (x >>= verdict_by t lines)
     by_record (Ok x) = by_place (place_of x.line lines) x.steps
     by_record (Err e) = refl
 
@@ -79,7 +84,7 @@ judge_splits j d = by_place (placed_steps j.lines d)
   where
     by_place : (p : Result (ℕ × List StepValue) EvidenceCause)
         → (p >>= λ q. put_judged j q.0 q.1)
-        ≡ ((p >>= λ q. Ok (record { place = q.0; judgement = judgement_at j.trace q.0 q.1 })) >>= λ v. settled j v)
+        ≡ ((p >>= verdict_at j.trace) >>= λ v. settled j v)
     by_place (Ok q) = put_is_settled j q.0 q.1
     by_place (Err e) = refl
 

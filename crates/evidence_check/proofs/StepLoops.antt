@@ -14,6 +14,7 @@ use Rattle.refusals.specs.Refusals.{◌>>=◌, needed}
 use Rattle.evidence_check.specs.Reading.{is_step, are_shaped, is_known, are_known, fact_in, facts_in, step_in, in_front, steps_in, steps_at, known_steps, record_steps, record_in, record_of_text, place_of, placed_steps, put_steps, record_line}
 use Rattle.evidence_check.specs.Records.{Records}
 use Rattle.evidence_check.specs.Steps.{RecordValue, StepValue}
+use Rattle.evidence_check.proofs.RecordSteps.{placed}
 use Rattle.evidence_check.specs.declared.cause.EvidenceCause.{EvidenceCause}
 use Rattle.evidence_check.specs.declared.cause.EvidenceCause.TheVariants as causes
 
@@ -65,7 +66,7 @@ placed_by_steps lines d = λ i. needed causes.Shape (number_at (codes "line") d)
 -- ---- a record is read by itself, and then its entry is found
 
 abbrev pub at_place : List ℕ → RecordValue → Result (ℕ × List StepValue) EvidenceCause
-at_place lines r = needed causes.StrayLine (place_of r.line lines) >>= λ p. Ok (p, r.steps)
+at_place lines r = needed causes.StrayLine (place_of r.line lines) >>= placed r.steps
 
 line_first : (lines : List ℕ) (line : Option ℕ) (steps : Result (List StepValue) EvidenceCause)
     → (needed causes.Shape line >>= λ l. placed_at steps (place_of l lines))
@@ -91,7 +92,7 @@ line_kept r d =
     ∙ by_record (record_in d)
   where
     by_place : (o : Option ℕ) (ss : List StepValue)
-        → ((needed causes.StrayLine o >>= λ p. Ok (p, ss)) >>= λ q. put_steps r q.0 q.1) ≡ (needed causes.StrayLine o >>= λ p. put_steps r p ss)
+        → ((needed causes.StrayLine o >>= placed ss) >>= λ q. put_steps r q.0 q.1) ≡ (needed causes.StrayLine o >>= λ p. put_steps r p ss)
     by_place None ss = refl
     by_place (Some p) ss = refl
 

@@ -1,5 +1,5 @@
 -- A line of evidence: what it says by itself, and what that makes of the judgements.
-use Rattle.std.proofs.Common.{◌≡◌, ℕ, ◌+◌, ◌-◌, ◌^◌, Bool, true, false, not, ◌&&◌, eqb, cond, ltb, List, [], ◌∷◌, length, Option, None, Some, Result, Ok, Err, refl, sym, ap, ◌∙◌}
+use Rattle.std.proofs.Common.{◌≡◌, ℕ, ◌+◌, ◌-◌, ◌^◌, Bool, true, false, not, ◌&&◌, eqb, cond, List, [], ◌∷◌, length, Option, None, Some, Result, Ok, Err, refl, sym, ap, ◌∙◌}
 use Rattle.std.specs.Prelude.{slice_get, slice_set}
 use Rattle.std.specs.Str.{is_utf8}
 use Rattle.serde_json.specs.Data.{Data}
@@ -11,18 +11,17 @@ use Rattle.json_lines.specs.declared.lines.InputFault.TheVariants.{Read, TooLong
 use Rattle.json_lines.specs.declared.reading.LineFault.{LineFault}
 use Rattle.json_lines.specs.declared.reading.Stop.TheVariants.{Input}
 use Rattle.line_blocks.specs.Parts.{taken_by}
-use Rattle.line_blocks.proofs.Parts.{bind_bind, bind_kept, bind_ok, bind_same}
+use Rattle.line_blocks.proofs.Parts.{bind_bind, bind_kept, bind_ok}
 use Rattle.trace_lines.specs.Values.{TraceValue}
-use Rattle.evidence_check.specs.Alone.{judgement_at, settled, verdict_in}
-use Rattle.evidence_check.specs.Judging.{is_judged, judge_line, judged_by, put_judged}
-use Rattle.evidence_check.specs.Reading.{fact_count, placed_steps}
+use Rattle.evidence_check.specs.Alone.{settled, verdict_in}
+use Rattle.evidence_check.specs.Judging.{is_judged, judge_line}
 use Rattle.evidence_check.specs.Records.{Judgements}
-use Rattle.evidence_check.specs.Steps.{StepValue}
 use Rattle.evidence_check.specs.declared.alone.Verdict.{Verdict}
 use Rattle.evidence_check.specs.declared.cause.EvidenceCause.{EvidenceCause}
 use Rattle.evidence_check.specs.declared.cause.EvidenceCause.TheVariants as causes
 use Rattle.evidence_check.specs.declared.judged.Judged.{Judged}
 use Rattle.evidence_check.specs.Verdicts.{put_verdict, verdict_told}
+use Rattle.evidence_check.proofs.RecordsApart.{judge_splits}
 
 -- a line of evidence, taken by judgements
 abbrev pub evidence_taken : ℕ → Judgements → List ℕ → Result Judgements EvidenceCause

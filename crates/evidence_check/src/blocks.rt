@@ -1,5 +1,7 @@
 //! Evidence as what its lines say by themselves, put into the judgements.
 
+ghost use Rattle.std.specs.Prelude.{◌≡◌};
+
 use crate::alone::{Verdict, judge_alone};
 use crate::asked_rules::AskedRules;
 use crate::cause::EvidenceCause;
