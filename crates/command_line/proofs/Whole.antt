@@ -1,7 +1,5 @@
 -- A whole request that clap found is the one that is read, and what is shown was asked for.
 use Rattle.std.proofs.Common.{refl, ◌≡◌, ◌⊎◌, inl, inr, ℕ, List, [], Option, Some, None, Result, codes, Bor, Bool, true, false, is_some, if◌then◌else◌, option_map}
-use Rattle.std.specs.Prelude.{IfOk}
-use Rattle.std.proofs.lemmas.Result.{IfOk-weaker}
 use Rattle.clap.specs.Words.{Kinds, HasKind, IsAmong, ReadsOne, Row, Text, kind_of, one_of}
 use Rattle.clap.specs.declared.error.Error.{Error}
 use Rattle.clap.specs.declared.error.kind.ErrorKind.TheVariants.{DisplayHelp, DisplayVersion, OutOfMemory}
@@ -39,11 +37,11 @@ asked_whole found o audit make history (makes t list) whole = make whole.0 t lis
 asked_whole found o audit make history (tells t u) whole = history whole.0 t u whole.1 whole.2
 
 -- an error of help has a kind that the words may bring about
-pub shown_asked : {E : Type 0} (kinds : Kinds) (e : Error) (r : Result Answer E) → HasKind kinds e → ¬ (kind_of e ≡ OutOfMemory)
-    → IfOk r (λ a. is_to_show a ≡ true → (kind_of e ≡ DisplayHelp) ⊎ (kind_of e ≡ DisplayVersion))
-    → IfOk r (λ a. is_to_show a ≡ true → IsAmong DisplayHelp kinds ⊎ IsAmong DisplayVersion kinds)
-shown_asked kinds e r (inl memory) left h = absurd (left memory)
-shown_asked kinds e r (inr among) left h = IfOk-weaker r _ _ (λ a of_kind shows. among_kinds (of_kind shows)) h
+pub shown_asked : (kinds : Kinds) (e : Error) (a : Answer) → HasKind kinds e → ¬ (kind_of e ≡ OutOfMemory)
+    → (is_to_show a ≡ true → (kind_of e ≡ DisplayHelp) ⊎ (kind_of e ≡ DisplayVersion))
+    → is_to_show a ≡ true → IsAmong DisplayHelp kinds ⊎ IsAmong DisplayVersion kinds
+shown_asked kinds e a (inl memory) left of_kind shows = absurd (left memory)
+shown_asked kinds e a (inr among) left of_kind shows = among_kinds (of_kind shows)
   where
     among_kinds : (kind_of e ≡ DisplayHelp) ⊎ (kind_of e ≡ DisplayVersion) → IsAmong DisplayHelp kinds ⊎ IsAmong DisplayVersion kinds
     among_kinds (inl help) = inl (rw (help) at among)

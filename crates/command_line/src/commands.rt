@@ -203,12 +203,18 @@ pub(crate) fn program<'a>(alloc: Global) -> Result<Command<'a>, AllocError>
     with_commands(alloc, audit)
 }
 
+fn needed_evidence<'a>(alloc: Global) -> Result<Arg<'a>, AllocError> {
+    evidence(alloc).required_unless_present("make")
+}
+
+fn strict_making<'a>(alloc: Global) -> Result<Arg<'a>, AllocError> {
+    making(alloc)
+        .conflicts_with("EVIDENCE")?
+        .conflicts_with("early")
+}
+
 /// The same with the rules between arguments, for the texts of what is refused.
 pub(crate) fn strict<'a>(alloc: Global) -> Result<Command<'a>, AllocError> {
-    let evidence = evidence(alloc).required_unless_present("make")?;
-    let make = making(alloc)
-        .conflicts_with("EVIDENCE")?
-        .conflicts_with("early")?;
-    let audit = audit(alloc, evidence, make)?;
+    let audit = audit(alloc, needed_evidence(alloc)?, strict_making(alloc)?)?;
     with_commands(alloc, audit)
 }

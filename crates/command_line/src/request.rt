@@ -211,17 +211,17 @@ fn text_for(alloc: Global, words: &[String]) -> Result<String, AllocError> {
     }
 }
 
-/// What is shown for an error: help and the version as such, and any other as a refusal.
-fn answer_to<'a>(alloc: Global, words: &[String], error: &Error) -> Result<Answer<'a>, AllocError>
-    ensures nothing { IfOk result (λ a. asked_in a ≡ None) }
-    ensures shown { IfOk result (λ a. is_to_show a ≡ true
-        → (kind_of error.now ≡ ErrorKind.DisplayHelp) ⊎ (kind_of error.now ≡ ErrorKind.DisplayVersion)) }
+/// The text of an error as an answer: help and the version are shown, and any other error is a refusal.
+fn told_as<'a>(error: &Error, text: String) -> Answer<'a>
+    ensures nothing { asked_in result ≡ None }
+    ensures shown { is_to_show result ≡ true
+        → (kind_of error.now ≡ ErrorKind.DisplayHelp) ⊎ (kind_of error.now ≡ ErrorKind.DisplayVersion) }
 {
-    let text = text_for(alloc, words)?;
     if error.use_stderr() {
-        return Ok(Answer::Refuses(text));
+        Answer::Refuses(text)
+    } else {
+        Answer::Shows(text)
     }
-    Ok(Answer::Shows(text))
 }
 
 /// Reads the words behind the program's name.
@@ -263,6 +263,6 @@ pub fn read_words<'a>(alloc: Global, words: &'a [String]) -> Result<Answer<'a>, 
             None => Ok(Answer::Refuses(text_for(alloc, words)?)),
         },
         Err(error) if error.kind() == ErrorKind::OutOfMemory => Err(AllocError),
-        Err(error) => answer_to(alloc, words, &error),
+        Err(error) => Ok(told_as(&error, text_for(alloc, words)?)),
     }
 }

@@ -3,3 +3,4 @@ pub mod LedLemmas
 pub mod MarkedLemmas
 pub mod PassLemmas
 pub mod StoredLemmas
+pub mod TableLemmas

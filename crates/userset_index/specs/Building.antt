@@ -6,10 +6,11 @@ use Rattle.namespaces.specs.Declaration.{Declaration}
 use Rattle.namespaces.specs.Lookup.{rule_at, rule_of}
 use Rattle.version_chains.specs.Commits.{Touch}
 use Rattle.marks.specs.Marks.{set_mark}
-use Rattle.userset_index.specs.Index.{AreOnce, IsFound, IsLastTouch, IsMark, is_crowded}
+use Rattle.userset_index.specs.Index.{AreExact, AreOnce, Holds, HoldsThrough, IsFound, IsLastTouch, IsMark, is_crowded}
 use Rattle.userset_index.specs.Lives.{is_alive}
 use Rattle.userset_index.specs.declared.life.Life.{Life}
 use Rattle.userset_index.specs.declared.life.Way.{Way}
+use Rattle.userset_index.specs.declared.life.Way.TheVariants.{Own, Object}
 
 -- behind this timestamp the touch is no longer the last of its tuple
 abbrev pub IsEnd : List Touch → ℕ → Touch → ℕ → Type 0
@@ -111,3 +112,12 @@ HoldsFirst n ds way touches crowds lives =
     (i at mark : ℕ) (x : Touch) (g : SetValue) → i < n → IsLastTouch touches at i x → x.tuple.user ≡ Set g
     → is_crowded crowds (set_mark x.tuple.set) ≡ true → at < 2 ^ 64 → IsMark ds way x.tuple.set g at mark
     → IsFound lives mark at i
+
+-- the three lists of lives that an index has of crowded usersets
+pub record AreLives (ds : List Declaration) (touches : List Touch) (crowds : List ℕ) (own through objects : List Life)
+    : Type 0 where
+  pub own_held : Holds ds Own touches crowds own
+  pub own_exact : AreExact touches own
+  pub through_held : HoldsThrough ds touches crowds through
+  pub through_exact : AreExact touches through
+  pub objects_held : Holds ds Object touches crowds objects

@@ -33,6 +33,11 @@ pub record IsBounded (lives : List Life) (i : ℕ) (s : Span) : Type 0 where
 abbrev pub AreBounded : List Span → Type 0
 AreBounded spans = (i : ℕ) (s : Span) → slice_get spans i ≡ Some s → IsBounded (lives_of spans) i s
 
+-- spans that are bounded, and links by the marks of their lives
+pub record AreGrown (links : List ℕ) (spans : List Span) : Type 0 where
+  pub linked : links ≡ marks_of (lives_of spans)
+  pub bounded : AreBounded spans
+
 abbrev pub found_first : Option ℕ → List ℕ → List ℕ
 found_first None rest = rest
 found_first (Some touch) rest = touch ∷ rest

@@ -1,8 +1,11 @@
 //! The index.
 
-ghost use Rattle.std.specs.Prelude.{◌≡◌, ◌&&◌, length, false, IfOk, IfSome, IsPermutation};
+ghost use Rattle.std.specs.Prelude.{◌≡◌, ◌&&◌, ℕ, List, length, false, IfOk, IfSome, IsPermutation};
 ghost use Rattle.tuple_text.specs.Refs.{set_value};
 ghost use Rattle.marks.specs.Marks as marks;
+ghost use Rattle.namespaces.specs.Declaration.{Declaration};
+ghost use Rattle.version_chains.specs.Commits.{Touch, changelog};
+ghost use Rattle.userset_index.specs.Building.{AreEnds, AreLives, AreSetMarks};
 ghost use Rattle.userset_index.specs.Index as spec;
 ghost use Rattle.userset_index.specs.Index.{AreNamespaces, IsUsersetIndex};
 ghost use Rattle.userset_index.specs.Lives.{touches_alive};
@@ -60,6 +63,74 @@ fn linked(alloc: Global, mut lives: Vec<Life>) -> Result<Spans, AllocError>
     Spans::of(alloc, &lives)
 }
 
+/// The lives of an index before they are linked.
+#[derive(Drop)]
+struct Lists {
+    own: Vec<Life>,
+    through: Vec<Life>,
+    objects: Vec<Life>,
+}
+
+impl Lists {
+    fn of(
+        alloc: Global,
+        chains: &Chains,
+        rules: &Rules,
+        crowds: &Crowds,
+        ends: &[u64],
+    ) -> Result<Lists, AllocError>
+        requires ends { AreEnds (changelog chains.now.commits) ends.now }
+        requires marks { AreSetMarks (changelog chains.now.commits) (length ends.now) crowds.now.marks.items }
+        ensures { IfOk result (λ l. AreLives rules.now (changelog chains.now.commits) crowds.now.counts.items
+            l.own.items l.through.items l.objects.items) }
+    {
+        let objects = lives_of(alloc, Way::Object, chains, rules, crowds, ends)?;
+        let through = lives_through(alloc, chains, rules, &objects)?;
+        let own = lives_of(alloc, Way::Own, chains, rules, crowds, ends)?;
+        Ok(Lists {
+            own,
+            through,
+            objects,
+        })
+    }
+
+    /// The lives, linked.
+    fn linked(self, alloc: Global) -> Result<(Spans, Spans, Spans), AllocError>
+        ensures { (ds : List Declaration) (touches : List Touch) (counts : List ℕ)
+            → AreLives ds touches counts self.own.items self.through.items self.objects.items
+            → IfOk result (λ l. AreLives ds touches counts l.0 l.1 l.2) }
+    {
+        let Lists {
+            own,
+            through,
+            objects,
+        } = self;
+        let own = linked(alloc, own)?;
+        let through = linked(alloc, through)?;
+        let objects = linked(alloc, objects)?;
+        Ok((own, through, objects))
+    }
+}
+
+/// The lives of what is stored in crowded usersets, beside the counts. The marks that were made for it go as it
+/// returns.
+fn lists_of(
+    alloc: Global,
+    chains: &Chains,
+    rules: &Rules,
+    counts: Vec<u8>,
+    ends: &[u64],
+) -> Result<(Vec<u8>, Lists), AllocError>
+    requires { AreEnds (changelog chains.now.commits) ends.now }
+    ensures { IfOk result (λ r. AreLives rules.now (changelog chains.now.commits) r.0.items
+        r.1.own.items r.1.through.items r.1.objects.items) }
+{
+    let marks = set_marks(alloc, chains, ends.len())?;
+    let crowds = Crowds { counts, marks };
+    let lists = Lists::of(alloc, chains, rules, &crowds, ends)?;
+    Ok((crowds.counts, lists))
+}
+
 impl UsersetIndex {
     /// No index, in which nothing is crowded.
     pub fn new(alloc: Global) -> UsersetIndex
@@ -84,33 +155,41 @@ impl UsersetIndex {
         ensures { IfOk result (λ index. IsUsersetIndex rules.now chains.now.commits index) }
     {
         let counts = count_crowds(alloc, chains)?;
-        if !is_any_crowded(&counts) {
-            return Ok(UsersetIndex {
-                is_whole: true,
-                crowds: counts,
-                own: Spans::new(alloc),
-                through: Spans::new(alloc),
-                objects: Spans::new(alloc),
-                times: Times::alone(alloc, chains, rules)?,
-            });
+        if is_any_crowded(&counts) {
+            return UsersetIndex::of_crowds(alloc, chains, rules, counts);
         }
-        let ends = ends_of(alloc, chains)?;
-        let times = Times::of(alloc, chains, rules, &ends)?;
-        let marks = set_marks(alloc, chains, ends.len())?;
-        let crowds = Crowds { counts, marks };
-        let objects = lives_of(alloc, Way::Object, chains, rules, &crowds, &ends)?;
-        let through = lives_through(alloc, chains, rules, &objects)?;
-        let own = lives_of(alloc, Way::Own, chains, rules, &crowds, &ends)?;
-        // What was kept of each touch goes before the lives are linked, which takes more memory than they do.
-        let Crowds { counts, marks } = crowds;
-        drop(marks);
-        drop(ends);
+        let times = Times::alone(alloc, chains, rules)?;
         Ok(UsersetIndex {
             is_whole: true,
             crowds: counts,
-            own: linked(alloc, own)?,
-            through: linked(alloc, through)?,
-            objects: linked(alloc, objects)?,
+            own: Spans::new(alloc),
+            through: Spans::new(alloc),
+            objects: Spans::new(alloc),
+            times,
+        })
+    }
+
+    /// The same where some userset is crowded, by the counts that say so.
+    fn of_crowds(
+        alloc: Global,
+        chains: &Chains,
+        rules: &Rules,
+        counts: Vec<u8>,
+    ) -> Result<UsersetIndex, AllocError>
+        ensures { IfOk result (λ index. IsUsersetIndex rules.now chains.now.commits index) }
+    {
+        let ends = ends_of(alloc, chains)?;
+        let times = Times::of(alloc, chains, rules, &ends)?;
+        let (crowds, lists) = lists_of(alloc, chains, rules, counts, &ends)?;
+        // What was kept of each touch goes before the lives are linked, which takes more memory than they do.
+        drop(ends);
+        let (own, through, objects) = lists.linked(alloc)?;
+        Ok(UsersetIndex {
+            is_whole: true,
+            crowds,
+            own,
+            through,
+            objects,
             times,
         })
     }

@@ -1,10 +1,10 @@
 //! Lives, found by their mark and a timestamp.
 
-ghost use Rattle.std.specs.Prelude.{◌≡◌, ◌≤◌, ◌∷◌, ◌++◌, [], Some, length, slice_get, nat_eq, IfOk, IfSome};
+ghost use Rattle.std.specs.Prelude.{◌≡◌, ◌≤◌, ◌∷◌, ◌++◌, [], Some, length, slice_get, nat_eq, IfOk, IfSome, OnOk};
 ghost use Rattle.std.specs.Iterator.{YieldsFirstBy, item_count};
 ghost use Rattle.marks.specs.Placed.{last_place, most};
 ghost use Rattle.userset_index.specs.Lives.{touches_alive, is_alive};
-ghost use Rattle.userset_index.specs.Spans.{AreBounded, IsBounded, IsPlaceOf, IsSpanAt, Steps, life_of, lives_of, marks_of};
+ghost use Rattle.userset_index.specs.Spans.{AreBounded, AreGrown, IsBounded, IsPlaceOf, IsSpanAt, Steps, life_of, lives_of, marks_of};
 
 use crate::life::Life;
 use marks::{MOST_PLACES, Places};
@@ -119,6 +119,43 @@ fn span_behind(spans: &[Span], ranks: &[u8], older: u32, life: Life) -> (Span, u
     (joined, rank_at(ranks, older).saturating_add(1))
 }
 
+/// Spans while they are added to, with the ranks of their jumps, which are needed only then.
+#[derive(Drop)]
+struct Growing {
+    links: Places,
+    spans: Vec<Span>,
+    ranks: Vec<u8>,
+}
+
+impl Growing {
+    fn with_room(alloc: Global, room: usize) -> Result<Growing, AllocError>
+        ensures grown { IfOk result (λ g. AreGrown g.links g.spans.items) }
+        ensures empty { IfOk result (λ g. g.spans.items ≡ []) }
+    {
+        Ok(Growing {
+            links: Places::with_room(alloc, room)?,
+            spans: Vec::with_capacity(alloc, room)?,
+            ranks: Vec::with_capacity(alloc, room)?,
+        })
+    }
+
+    fn push(&mut self, life: Life) -> Result<(), AllocError>
+        requires { AreGrown self.old.links self.old.spans.items }
+        ensures grown { OnOk result (AreGrown self.new.links self.new.spans.items) }
+        ensures lives { OnOk result (lives_of self.new.spans.items ≡ lives_of self.old.spans.items ++ life ∷ []) }
+    {
+        let older = self.links.newest(life.mark);
+        if older > MOST_PLACES || life.touch > MOST_PLACES {
+            return Err(AllocError);
+        }
+        let (span, rank) = span_behind(&self.spans, &self.ranks, older as u32, life);
+        self.links.push(life.mark)?;
+        self.spans.push(span)?;
+        self.ranks.push(rank)?;
+        Ok(())
+    }
+}
+
 /// Where a walk stands after a step, and the touch of the life that it met there, if the timestamp is one of that
 /// life's.
 #[derive(Clone, Copy, Drop)]
@@ -137,24 +174,18 @@ impl Spans {
         }
     }
 
-    /// These lives, in this order. Ranks of jumps are needed only here.
+    /// These lives, in this order.
     pub(crate) fn of(alloc: Global, lives: &[Life]) -> Result<Spans, AllocError>
         ensures { IfOk result (λ spans. spans ≡ lives.now) }
     {
-        let mut links = Places::with_room(alloc, lives.len())?;
-        let mut spans = Vec::with_capacity(alloc, lives.len())?;
-        let mut ranks = Vec::with_capacity(alloc, lives.len())?;
+        let mut growing = Growing::with_room(alloc, lives.len())?;
         for life in lives {
-            let older = links.newest(life.mark);
-            if older > MOST_PLACES || life.touch > MOST_PLACES {
-                return Err(AllocError);
-            }
-            let (span, rank) = span_behind(&spans, &ranks, older as u32, *life);
-            links.push(life.mark)?;
-            spans.push(span)?;
-            ranks.push(rank)?;
+            growing.push(*life)?;
         }
-        Ok(Spans { links, spans })
+        Ok(Spans {
+            links: growing.links,
+            spans: growing.spans,
+        })
     }
 
     /// The step of a walk from the life at this index, which looks for those that hold the timestamp.

@@ -1,6 +1,6 @@
 //! What is kept of a part that reads through a tupleset, for the facts behind.
 
-ghost use Rattle.std.specs.Prelude.{◌≡◌, ◌↔◌, [], IsTrue, true, false, string_bytes, IfOk};
+ghost use Rattle.std.specs.Prelude.{◌≡◌, ◌↔◌, [], IsTrue, true, false, string_bytes, IfOk, IfSome};
 ghost use Rattle.tuple_text.specs.Refs.{set_value};
 ghost use Rattle.rewrites.specs.Parts.{computed_names, through_expression};
 ghost use Rattle.strata.specs.Meaning.{with_relation};
@@ -66,21 +66,18 @@ fn kept_of(
     })
 }
 
-/// The same, where something was kept before.
-fn kept_after(
+/// The namespaces that declare what is read, which are looked for where nothing was kept before.
+fn declaring_of(
     alloc: Global,
     snapshot: &Snapshot<'_>,
     through: &Through,
-    set: SetRef<'_>,
     kept: Option<Box<Kept>>,
-) -> Result<Kept, AllocError>
+) -> Result<Vec<u16>, AllocError>
     requires { MayBeKept snapshot.now.timeline through.now kept }
-    ensures { IfOk result (λ k. IsKept snapshot.now.timeline through.now k × (k.at ≡ snapshot.now.at)
-        × (kept_set k through.now ≡ with_relation (set_value set.entry) (string_bytes through.now.tupleset))) }
+    ensures { IfOk result (λ d. AreDeclaring snapshot.now.timeline.declarations (computed_names through.now) d.items) }
 {
     let Some(kept) = kept else {
-        let declaring = declaring(alloc, snapshot.timeline.rules(), through)?;
-        return kept_of(alloc, snapshot, through, set, declaring);
+        return declaring(alloc, snapshot.timeline.rules(), through);
     };
     let Kept {
         declaring,
@@ -90,7 +87,24 @@ fn kept_after(
         at: _,
         live: _,
     } = Box::into_inner(kept);
-    kept_of(alloc, snapshot, through, set, declaring)
+    Ok(declaring)
+}
+
+/// What is kept for the object of a userset in a snapshot, where something may have been kept before.
+fn kept_after(
+    alloc: Global,
+    snapshot: &Snapshot<'_>,
+    through: &Through,
+    set: SetRef<'_>,
+    kept: Option<Box<Kept>>,
+) -> Result<Box<Kept>, AllocError>
+    requires { MayBeKept snapshot.now.timeline through.now kept }
+    ensures { IfOk result (λ k. IsKept snapshot.now.timeline through.now k.value × (k.value.at ≡ snapshot.now.at)
+        × (kept_set k.value through.now ≡ with_relation (set_value set.entry) (string_bytes through.now.tupleset))) }
+{
+    let declaring = declaring_of(alloc, snapshot, through, kept)?;
+    let kept = kept_of(alloc, snapshot, through, set, declaring)?;
+    Ok(Box::new(alloc, kept)?)
 }
 
 /// Whether no userset that is stored in a tupleset may have the user, where what is kept is of that tupleset.
@@ -120,6 +134,27 @@ fn is_quiet(
     }
 }
 
+/// Whether no userset that is stored in a tupleset may have the user, where what is kept tells it: that is of this
+/// tupleset, or says that nothing matters there.
+fn bars_by_kept<F: KnownFact>(
+    fact: &AskedFact<'_, F>,
+    through: &Through,
+    kept: &Kept,
+) -> Option<bool>
+    requires kept { IsKept fact.now.snapshot.now.timeline through.now kept.now }
+    requires tupleset { (asked_set fact.now).relation ≡ string_bytes through.now.tupleset }
+    ensures { IfSome result (λ r. IsTrue r ↔ IsBarredBy fact.now (computed_names through.now)) }
+{
+    let snapshot = fact.snapshot;
+    if is_of(kept, fact.set.set, snapshot.at) {
+        return Some(bars(fact, through, kept));
+    }
+    if is_quiet(snapshot, through, fact.set, kept) {
+        return Some(true);
+    }
+    None
+}
+
 /// Whether all that is read through a tupleset rules a fact out. Where something matters of the tupleset, it is looked
 /// for once, and kept.
 pub(crate) fn through_bars<F: KnownFact>(
@@ -132,19 +167,15 @@ pub(crate) fn through_bars<F: KnownFact>(
     ensures kept { MayBeKept fact.now.snapshot.now.timeline through.now kept.new }
     ensures bars { IfOk result (λ r. IsTrue r ↔ DoesFor fact.now false (through_expression through.now)) }
 {
-    let snapshot = fact.snapshot;
     let set = tupleset_of(fact.set.set, through);
     let of_tupleset = AskedFact { set, ..*fact };
     if let Some(found) = kept {
-        if is_of(found, fact.set.set, snapshot.at) {
-            return Ok(bars(&of_tupleset, through, found));
-        }
-        if is_quiet(snapshot, through, set, found) {
-            return Ok(true);
+        if let Some(is_barred) = bars_by_kept(&of_tupleset, through, found) {
+            return Ok(is_barred);
         }
     }
-    let now = kept_after(alloc, snapshot, through, fact.set.set, kept.take())?;
+    let now = kept_after(alloc, fact.snapshot, through, fact.set.set, kept.take())?;
     let is_barred = bars(&of_tupleset, through, &now);
-    *kept = Some(Box::new(alloc, now)?);
+    *kept = Some(now);
     Ok(is_barred)
 }

@@ -151,6 +151,23 @@ fn are_barred_one_by_one<F: KnownFact>(fact: &AskedFact<'_, F>, through: &Throug
     true
 }
 
+/// The same for all relations at once, one userset after the other.
+fn are_barred_set_by_set<F: KnownFact>(
+    fact: &AskedFact<'_, F>,
+    through: &Through,
+    declaring: &[u16],
+) -> bool
+    requires { AreDeclaring fact.now.snapshot.now.timeline.declarations (computed_names through.now) declaring.now }
+    ensures { IsTrue result ↔ IsBarredBy fact.now (computed_names through.now) }
+{
+    for set in fact.snapshot.usersets(fact.set) {
+        if !bars_names(fact, through, set, declaring) {
+            return false;
+        }
+    }
+    true
+}
+
 /// The same. Where the set is crowded, or many relations are read, it goes over what is stored once for all of them.
 pub(crate) fn are_barred<F: KnownFact>(
     fact: &AskedFact<'_, F>,
@@ -172,12 +189,7 @@ pub(crate) fn are_barred<F: KnownFact>(
     if through.computed.len() <= FEW_RELATIONS {
         return are_barred_one_by_one(fact, through);
     }
-    for set in fact.snapshot.usersets(fact.set) {
-        if !bars_names(fact, through, set, declaring) {
-            return false;
-        }
-    }
-    true
+    are_barred_set_by_set(fact, through, declaring)
 }
 
 /// Whether what is read through a tupleset gives a fact.

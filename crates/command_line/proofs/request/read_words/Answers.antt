@@ -57,7 +57,7 @@ returns c = record {
   first = search rules;
   asked = search rules;
   taken = λ taken a writes. let memory = only_memory _ c.in-Err.error c.in-Err.ensures.kinds taken in absurd (search rules);
-  shown = shown_asked _ c.in-Err.error _ c.in-Err.ensures.kinds (λ memory. search rules) c.answer_to.ensures.shown;
+  shown = shown_asked _ c.in-Err.error c.told_as.result c.in-Err.ensures.kinds (λ memory. search rules) c.told_as.ensures.shown;
   audit = λ t e ws p q. let memory = c.in-Err.ensures.passes (ap (λ (words : List Text). takes program words) ws ∙ audit_taken t e p q) in absurd (search rules);
   audit_made = λ t ws p. let memory = c.in-Err.ensures.passes (ap (λ (words : List Text). takes program words) ws ∙ made_taken t p) in absurd (search rules);
   make = λ t ws p. let memory = c.in-Err.ensures.passes (ap (λ (words : List Text). takes program words) ws ∙ make_taken t p) in absurd (search rules);

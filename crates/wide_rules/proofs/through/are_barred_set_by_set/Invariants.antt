@@ -2,7 +2,7 @@ use Rattle.std.proofs.Common.{◌↔◌}
 use Rattle.rewrites.specs.Parts.{computed_names}
 use Rattle.judgement.specs.Passes.{EachSet}
 use Rattle.wide_rules.specs.AskedFact.{BarsUnder, IsBarredBy}
-use Rattle.wide_rules.proofs.through.are_barred.Given as goal
+use Rattle.wide_rules.proofs.through.are_barred_set_by_set.Given as goal
 
 -- what is left decides
 abbrev pub invariant-loop-set : goal.invariant-loop-set
