@@ -1,4 +1,5 @@
-use Rattle.std.proofs.Common.{rules, ◌≡◌, ◌∙◌, ◌↔◌, Bool, IsTrue, List, map, true, false, ap, sym, subst}
+use Rattle.std.proofs.Common.{arith, rules, ◌≡◌, ◌∙◌, ◌↔◌, Bool, IsTrue, List, map, true, false, ap, sym, subst}
+use Rattle.std.proofs.lemmas.Grind.{common_steps}
 use Rattle.std.specs.Prelude.{Contains}
 use Rattle.std.specs.List.{list_any}
 use Rattle.tuple_text.specs.Order.{fact_eq}
@@ -26,3 +27,36 @@ returns-clause-was g c = λ asked.
           subst (λ (b : Bool). IsTrue b ↔ Contains c.args.self.now fact) (sym test) (there_if_any c.args.self.now fact)
       | in-None+else-is_asked w ↦ absurd (let no : true ≡ false = sym asked ∙ w.if-is_asked.false in cc)
     ]
+
+pub returns-in_err-mark-clause-ok : goal.returns-in_err-mark-clause-ok
+returns-in_err-mark-clause-ok g c = grind (arith, common_steps)
+
+pub returns-in_err-mark-clause-was : goal.returns-in_err-mark-clause-was
+returns-in_err-mark-clause-was g c = grind (arith, common_steps)
+
+pub returns-in_err-mark-clause-err : goal.returns-in_err-mark-clause-err
+returns-in_err-mark-clause-err g c = grind (arith, common_steps)
+
+pub returns-in_err-reserve-clause-ok : goal.returns-in_err-reserve-clause-ok
+returns-in_err-reserve-clause-ok g c = grind (arith, common_steps)
+
+pub returns-in_err-reserve-clause-was : goal.returns-in_err-reserve-clause-was
+returns-in_err-reserve-clause-was g c = grind (arith, common_steps)
+
+pub returns-in_err-reserve-clause-err : goal.returns-in_err-reserve-clause-err
+returns-in_err-reserve-clause-err g c = grind (arith, common_steps)
+
+pub returns-in_err-was-in-Some-clause-ok : goal.returns-in_err-was-in-Some-clause-ok
+returns-in_err-was-in-Some-clause-ok g c = grind (arith, common_steps)
+
+pub returns-in_err-was-in-Some-clause-was : goal.returns-in_err-was-in-Some-clause-was
+returns-in_err-was-in-Some-clause-was g c = grind (arith, common_steps)
+
+pub returns-in_err-was-in-Some-clause-err : goal.returns-in_err-was-in-Some-clause-err
+returns-in_err-was-in-Some-clause-err g c = grind (arith, common_steps)
+
+pub returns-clause-ok : goal.returns-clause-ok
+returns-clause-ok g c = grind (arith, common_steps)
+
+pub returns-clause-err : goal.returns-clause-err
+returns-clause-err g c = grind (arith, common_steps)
