@@ -13,6 +13,9 @@
 //! `judged`. Whoever made the evidence, a supported reply is what the rules mean at the entry's snapshot (Zanzibar,
 //! section 2.3), and a contradicted one is not. The laws in [`laws`] say the same of each accepted step.
 //!
+//! The program judges by evidence as it is read. For programs that keep it, to look at one entry or at its steps, there
+//! are [`read_evidence`] and [`judge_entry`]; they go through the same reader and the same steps.
+//!
 //! ```text
 //! let evidence = read_evidence(alloc, &mut reader, &trace)?;
 //! let judged = judge_entry(&trace, &evidence, 0)?;

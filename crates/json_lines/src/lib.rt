@@ -1,11 +1,9 @@
 //! Lines of JSON out of any reader.
 //!
-//! [`read_lines`] hands each line of a [`Source`] to a [`TakeJson`], up to the first line that is refused. The readers
-//! and writers are those of `devices`, whose names stand here too.
+//! [`read_lines`] hands each line of a `Source` of `devices` to a [`TakeJson`], up to the first line that is refused.
 //!
 //! A line is the `serde_json::Value` that its text is ([`read_value`]), and contracts see it as its `Data`; [`fields`]
-//! has the fields of an object by their types. A line whose text tells the taker what it says is not read as JSON. The
-//! value of another is let go before the next line.
+//! has the fields of an object by their types. A taker may know by the text of a line what its value would say.
 //!
 //! Callers may rely on this: what is read is `read_all` of the bytes that the reader gave, to its end or to the first
 //! fault with its line, also of a reader that fails. A refusal holds of every input that begins with these bytes. A
@@ -39,7 +37,6 @@ mod lines;
 mod reading;
 mod taking;
 
-pub use devices::{Counted, Failing, Held, Sink, Source, Unsent, send};
 pub use joined::{Front, Rest, read_front};
 pub use line::read_value;
 pub use lines::{CHUNK, InputFault, line_end};

@@ -2,7 +2,7 @@
 //! shown by rows.
 
 use audit::{AuditFault, Verdict, audit_joined, audit_plain};
-use json_lines::{Counted, Failing, Held};
+use devices::{Counted, Failing, Held};
 use std::alloc::Global;
 use std::test::Fail;
 use trace_lines::{Cause, TraceFault};

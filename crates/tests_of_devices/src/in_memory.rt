@@ -1,7 +1,7 @@
 //! An audit of bytes in memory, as another program would make it. ARCHITECTURE.md shows this file.
 
 use audit::{AuditFault, Verdict, audit_plain};
-use json_lines::{Counted, Held};
+use devices::{Counted, Held};
 use std::alloc::Global;
 
 const TRACE: &str = "\

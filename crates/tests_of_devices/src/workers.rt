@@ -1,7 +1,7 @@
 //! An audit by two workers whose early lines find no way out. What workers answer, and which early lines go out, is shown by rows.
 
 use audit::{Verdict, audit_early};
-use json_lines::{Counted, Failing, Held};
+use devices::{Counted, Failing, Held};
 use std::test::*;
 
 const RULES: &str =

@@ -1,6 +1,6 @@
 -- Commits and entries stand on lines that rise.
 use Rattle.std.proofs.Common.{◌≡◌, ℕ, ◌+◌, ◌-◌, ◌≤◌, ◌&&◌, List, [], ◌∷◌, ◌++◌, length, get_or, Option, Some, None, Result, Ok, Err, arith, refl, inl, inr}
-use Rattle.std.specs.Prelude.{codes, bytes_eq, option_and_then, IfSome, OnOk}
+use Rattle.std.specs.Prelude.{codes, bytes_eq, option_and_then, OnOk}
 use Rattle.std.specs.List.Sorted.{IsStrictlyIncreasing}
 use Rattle.std.proofs.Math.ListN.{get_or-append}
 use Rattle.std.proofs.Math.Seq.{get_or-append_seam}
@@ -132,22 +132,6 @@ pub fits_value : (n : ℕ) (t : TraceValue) (d : Data) → next_line t ≤ n →
 unfolding value_line
 fits_value n t d le = fits_kind n t d (option_and_then as_str (get (codes "kind") d)) le
 
--- a line leaves room for the next
-pub line_further : (n : ℕ) (t u : TraceValue) (d : Data) (result : Result (Unit {0}) Cause) → next_line t ≤ n → Gives (λ _. u) result (value_line n t d) → OnOk result (next_line u ≤ n + 1)
-line_further n t u d (Ok x) le e = value_has (Fits n) (value_line n t d) u e (fits_value n t d le)
-line_further n t u d (Err c) le e = tt
-
--- so does one that is taken by its text
-pub text_further : (n : ℕ) (t u : TraceValue) (o : Option Data) (answer : Option (Result (Unit {0}) Cause)) → next_line t ≤ n
-    → IfSome answer (λ r. Gives (λ _. u) r (of_json causes.NotJson (value_line n t) o)) → IfSome answer (λ r. OnOk r (next_line u ≤ n + 1))
-text_further n t u o None le told = tt
-text_further n t u None (Some r) le told = not_json r told
-  where
-    not_json : (r : Result (Unit {0}) Cause) → Gives (λ _. u) r (Err causes.NotJson) → OnOk r (next_line u ≤ n + 1)
-    not_json (Ok x) e = absurd cc
-    not_json (Err c) e = tt
-text_further n t u (Some d) (Some r) le told = line_further n t u d r le told
-
 fits_text : (n : ℕ) (t : TraceValue) (o : Option Data) → next_line t ≤ n
     → OkHas (Fits n) (of_json causes.NotJson (declaration_line n t) o)
 fits_text n t None le = tt
@@ -159,7 +143,7 @@ fits_put n t (commits c) le = fits_commit n t c le
 fits_put n t (records e) le =
     fits_entry n (length t.commits) t (placed_at n (length t.commits) e) le (refl, refl)
 
--- so does what a line says, put in
+-- what a line says, put in, leaves room for the next
 pub put_further : (n : ℕ) (t u : TraceValue) (l : LineValue) (result : Result (Unit {0}) Cause) → next_line t ≤ n
     → Gives (λ _. u) result (put_line n t l) → OnOk result (next_line u ≤ n + 1)
 put_further n t u l (Ok x) le e = value_has (Fits n) (put_line n t l) u e (fits_put n t l le)

@@ -43,7 +43,6 @@ mod written;
 
 pub use builder::TraceBuilder;
 pub use cause::{Cause, TraceFault};
-pub use devices::{Counted, Failing, Sink, Source, Unsent, send};
 pub use entry::{Entry, EntryKind};
 pub use front::{TraceFront, read_trace_front};
 pub use line::TraceLine;

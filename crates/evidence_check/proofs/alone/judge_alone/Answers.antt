@@ -1,4 +1,4 @@
-use Rattle.std.proofs.Common.{rules, ◌≡◌, None, Some, ◌∙◌, ap}
+use Rattle.std.proofs.Common.{rules, ◌≡◌, None, Some}
 use Rattle.json_lines.proofs.JsonLines.{fails_then}
 use Rattle.evidence_check.specs.Causes.{is_memory}
 use Rattle.evidence_check.specs.Reading.{place_of, record_of_text}

@@ -1,4 +1,4 @@
-use Rattle.std.proofs.Common.{rules, ◌≡◌, ap, subst, ◌∙◌}
+use Rattle.std.proofs.Common.{rules}
 use Rattle.json_lines.proofs.JsonLines.{fails_then}
 use Rattle.refusals.specs.Refusals.{Fails}
 use Rattle.evidence_check.specs.Alone.{settled, verdict_of}
