@@ -3,9 +3,9 @@
 ghost use Rattle.std.specs.Prelude.{◌≡◌, ◌≤◌, IfOk, Ok, true, length};
 ghost use Rattle.tuple_text.specs.FactRefs.{fact_value};
 ghost use Rattle.tuple_text.specs.Faults.{Gives, Tells};
-ghost use Rattle.tuple_text.specs.Forms.{IsUserset, is_name, plain_number};
+ghost use Rattle.tuple_text.specs.Forms.{IsUserset, is_name};
 ghost use Rattle.tuple_text.specs.Grammar.{userset_text, tuple_text, fact_text, IsHead, IsTuple, IsFact, IsUser};
-ghost use Rattle.tuple_text.specs.Reading.{userset_at, user_at, id_only, head_at, tuple_at, fact_at};
+ghost use Rattle.tuple_text.specs.Reading.{userset_at, user_at, head_at, tuple_at, fact_at};
 ghost use Rattle.tuple_text.specs.Refs.{set_value, user_value};
 ghost use Rattle.tuple_text.specs.Sets.{SetValue};
 ghost use Rattle.tuple_text.specs.TupleRefs.{tuple_value};
@@ -92,25 +92,17 @@ fn tuple_from(text: &str) -> Result<TupleRef<'_>, TupleFault>
     Ok(TupleRef::from_parts(set, user))
 }
 
-/// The id that the text of a user writes.
-#[inline(always)]
-fn user_id_from(text: &str, at: usize) -> Result<u64, TupleFault>
-    ensures { Tells (λ n. n) result (id_only at (plain_number text.now)) }
-{
-    match plain_number(text) {
-        Some(id) => Ok(id),
-        None => Err(TupleFault::User { at }),
-    }
-}
-
 #[tactic(auto, unfolding(crate::specs::Reading::fact_at))]
 #[inline(always)]
 fn fact_from(text: &str) -> Result<FactRef<'_>, TupleFault>
     ensures { Tells fact_value result (fact_at text.now) }
 {
     let (set, user) = head_from(text)?;
-    let user = user_id_from(user, text.len() - user.len())?;
-    Ok(FactRef::from_parts(set, user))
+    let at = text.len() - user.len();
+    match plain_number(user) {
+        Some(user) => Ok(FactRef::from_parts(set, user)),
+        None => Err(TupleFault::User { at }),
+    }
 }
 
 /// Reads a tuple, `namespace:object_id#relation@user`, and borrows its parts.

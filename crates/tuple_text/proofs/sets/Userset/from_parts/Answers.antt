@@ -1,5 +1,4 @@
-use Rattle.std.proofs.Common.{arith, ◌≡◌, ◌++◌, List, ℕ, sym, ap, subst, ◌∙◌}
-use Rattle.std.proofs.lemmas.Grind.{common_steps}
+use Rattle.std.proofs.Common.{◌≡◌, ◌++◌, List, ℕ, sym, ap, subst, ◌∙◌}
 use Rattle.std.specs.Prelude.{string_bytes}
 use Rattle.std.specs.Str.{IsUtf8}
 use Rattle.std.proofs.lemmas.Str.{IsUtf8-had}
@@ -19,18 +18,3 @@ invariant_of-result c =
       joined_split n i r (string_bytes c.push_str-3.new.self) all
           (subst IsUtf8 one (IsUtf8-had _ c.push_str.new.self.ok)) (subst IsUtf8 two (IsUtf8-had _ c.push_str-2.new.self.ok)) (IsUtf8-had _ c.push_str-3.new.self.ok),
     )
-
-pub returns-in_err-text : goal.returns-in_err-text
-returns-in_err-text c = grind (arith, common_steps)
-
-pub returns-in_err-push_str : goal.returns-in_err-push_str
-returns-in_err-push_str c = grind (arith, common_steps)
-
-pub returns-in_err-push_str-2 : goal.returns-in_err-push_str-2
-returns-in_err-push_str-2 c = grind (arith, common_steps)
-
-pub returns-in_err-push_str-3 : goal.returns-in_err-push_str-3
-returns-in_err-push_str-3 c = grind (arith, common_steps)
-
-pub returns : goal.returns
-returns c = grind (arith, common_steps)
