@@ -179,10 +179,7 @@ class Processes(OpenFga):
         """Stale replies that the service plants are found, and no other."""
         self.start_service(MODEL, "0.3", "planted")
         self.prepare()
-        said_to = open(self.path("said"), "w+", encoding="utf-8")
-        self.addCleanup(said_to.close)
-        recorder = self.start(os.path.join(os.path.dirname(os.path.dirname(__file__)), "record"), "--openfga", "http://127.0.0.1:%d" % self.service_port,
-                              "--changes-only", "--out", "log", stderr=said_to)
+        recorder = self.started("log", "--changes-only")
         self.wait_for(lambda: self.of_kind("read") if "recording" in self.get("said") else False, lambda: self.get("said"))
         module = library()
         apps = [module.Events(self.path("events"), STORE) for _ in range(2)]

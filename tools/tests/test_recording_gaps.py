@@ -248,7 +248,7 @@ class Behind(SpiceDb):
     def test_a_watch_that_stands_still(self):
         """Checks that wait longer than they may are lost, and the log says so; the check of a version that was lost is no finding."""
         self.start_service()
-        recorder = self.start_recorder("--hold", "1")
+        recorder = self.start_recorder("--hold", "5")
         client = Client(self.port)
         self.prepare(client)
         client.ask("/v1/control/pause", {})
@@ -261,7 +261,7 @@ class Behind(SpiceDb):
         client.close()
         self.wait_for(lambda: self.of_kind("check"))
         self.end(recorder)
-        self.assertEqual([(row["reason"], row["lost"]) for row in self.of_kind("gap")], [("the changes were more than 1 seconds behind", 1)])
+        self.assertEqual([(row["reason"], row["lost"]) for row in self.of_kind("gap")], [("the changes were more than 5 seconds behind", 1)])
         self.assertIn("audited in part 1: %s; not looked for: F2, F6" % causes.VERSION_UNKNOWN, self.import_log())
         self.assertEqual(self.found(), {})
 

@@ -308,7 +308,7 @@ class Written(OpenFga):
         self.assertEqual(len(self.lows()) + sum(self.lost().values()), 3 + len(saved))
         self.assertLessEqual(set(self.lost()), {
             "a write was answered that the changes did not show within 1 seconds", "the changes were more than 1 seconds behind",
-            "the recorder ended before the changes that these needed: content checks"})
+            "an answer took longer than 1 seconds", "the recorder ended before the changes that these needed: content checks"})
 
 
 class WhoMayRead(OpenFga):

@@ -2,7 +2,10 @@
 import os
 import socket
 import time
+from unittest import mock
 
+from new_enemy_tools.recording.keeper import Settings
+from new_enemy_tools.recording.openfga_feed import OpenFgaFeed
 from tests.recorded import READY, Client
 from tests.stand_in_openfga import STORE
 from tests.test_recording_gaps import keeper_of
@@ -70,7 +73,16 @@ class Raced(OpenFga):
         self.import_log()
         self.assertEqual((self.found(), len(self.of_kind("check"))), ({}, 1), self.said_of_audit)
 
-    def test_a_right_that_is_revoked_at_the_service_in_a_quiet_second(self):
+    def test_how_long_the_readings_rest(self):
+        """As long after many that gave nothing as after the first."""
+        feed = OpenFgaFeed(Settings("openfga", "http://127.0.0.1:1", "log", STORE, None, False, 30, 0.05, 0, 1, 1))
+        feed.overlap, read, ends = mock.Mock(), [], [None] * 200 + [InterruptedError]
+        with mock.patch.object(feed, "_read"), mock.patch("time.sleep", mock.Mock(side_effect=ends)) as sleep:
+            with self.assertRaises(InterruptedError):
+                feed.run(None, read.append)
+        self.assertEqual((len(read), {words[0] for words, _ in sleep.call_args_list}), (201, {0.05}))
+
+    def test_a_right_that_is_revoked_at_the_service_when_all_was_quiet(self):
         recorder = self.begin(0, 0, share="1")
         direct = Client(self.service_port)
         self.write(direct, key(USERS[0], "owner", EARLY[0]))

@@ -66,6 +66,8 @@ class Schemas(SpiceDb):
         self.check(client, "u1", "view", "d0", FULL)
         client.ask("/v1/schema/write", {"schema": OPEN})
         self.check(client, "u1", "view", "d0", FULL)
+        # What a schema was is not known where it has changed again before it is read.
+        self.wait_for(lambda: len(self.of_kind("rules")) == 2)
         client.ask("/v1/schema/write", {"schema": SCHEMA})
         self.check(client, "u1", "view", "d0", FULL)
         client.close()

@@ -46,7 +46,7 @@ class Holds(Case):
         self.assertGreater(recorded, 30 * lost)
 
     def test_the_command(self):
-        run = subprocess.run([sys.executable, os.path.join(TOOLS, "dev", "simulate"), "--seeds", "20"], capture_output=True, text=True, timeout=60)
+        run = subprocess.run([sys.executable, os.path.join(TOOLS, "dev", "simulate"), "--seeds", "20"], capture_output=True, text=True, timeout=300)
         self.assertEqual((run.returncode, run.stdout.splitlines()[-1]), (0, "20 passed, 0 failed"), run.stderr)
 
 
