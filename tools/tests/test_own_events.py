@@ -1,14 +1,15 @@
 """Events that an application writes itself, beside a log of the changes alone: ne record --changes-only, and ne join."""
 import importlib.util
 import os
+import time
 from unittest import mock
 
+from new_enemy_tools.importing.times import nanoseconds
 from new_enemy_tools.recording import own_events
 from new_enemy_tools.recording.joining import Join
 from new_enemy_tools.recording.own_events import BEFORE, BEHIND, OTHER, Timed
 from new_enemy_tools.recording.places import Places
 from new_enemy_tools.recording.sketches import Given, JoinFault, Row
-from tests.recorded import Client
 from tests.simulation import run_apart
 from tests.stand_in_openfga import STORE
 from tests.support import EXAMPLES, Case
@@ -203,11 +204,9 @@ class Processes(OpenFga):
         count = sum(app.count for app in apps)
         for app in apps:
             app.close()
-        # The changes are read up to a second after the last check.
-        client = Client(self.service_port)
-        self.write(client, key("user:last", "viewer", "document:x"))
-        client.close()
-        self.wait_for(lambda: "last" in self.get("log/000001.jsonl"))
+        # A check is placed where the changes were read beyond it, by as much as clocks may be apart.
+        until = time.time_ns() + 20_000_000
+        self.wait_for(lambda: nanoseconds(self.of_kind("read")[-1]["until"]) > until)
         self.end(recorder)
         run = self.run_process("join", "--skew", "20", "--out", "all", "log", *[app.path for app in apps])
         self.assertEqual((run.returncode, run.stderr), (0, ""))
