@@ -52,8 +52,8 @@ class Tokens(World):
         self.lag = self.random.choice((0, 0, 15)) * STEP
         self.feed = Feed(self)
         self.base = 0
-        # schemas that changed again before they were read: those have no line
-        self.unread = set()
+        # schemas that changed again before they were read: those have no line; and what waited until the schema before it was sure
+        self.unread, self.waited = set(), {}
 
     def run(self):
         with mock.patch("new_enemy_tools.recording.spicedb.time") as clock:
@@ -71,9 +71,12 @@ class Tokens(World):
     def place(self, token):
         return (self.tokens.revision_of({"token": token}) - FIRST) // NEXT
 
-    def known_at(self, at):
-        """The newest commit that the changes or an answer had shown."""
-        return max((place for told, place in self.known if told <= at), default=self.base)
+    def known_at(self, at, is_sure):
+        """The newest commit that the changes or an answer had shown; what waits for its schema surely counts when that is sure."""
+        shown = [(told, place) for told, place, is_change in self.known if not (is_sure and is_change)]
+        if is_sure:
+            shown += [(told, place) for place, told in self.waited.items()]
+        return max((place for told, place in shown if told <= at), default=self.base)
 
     def _tell(self, way, message):
         """Watch is read in the keeper itself, so what it gives is taken before a check that begins then has its answer."""
@@ -105,7 +108,7 @@ class Tokens(World):
             changes = self.service.changes[self.service.times[place]]
             updates = [{"operation": "OPERATION_TOUCH" if live else "OPERATION_DELETE", "relationship": relation_of(given)}
                        for given, live in changes if given != OPEN]
-            self.known.append((self.now, place))
+            self.known.append((self.now, place, True))
             yield {"updates": updates, "changesThrough": self.token(place, True), **({} if updates else {"schemaUpdated": True})}
         if after == head and self.has_checkpoints:
             # A number stands between those of the commits.
@@ -123,6 +126,8 @@ class Tokens(World):
         for watched, read_at in self.feed._watched():
             for one in self.feed._sure(watched, read_at):
                 self._tell("feed", one)
+                if isinstance(one, Watched):
+                    self.waited[self.place(one.token)] = self.now
                 if isinstance(one, Watched) and self.token(self.place(one.token), True)["token"] == one.token and not one.updates and one.rules is None:
                     self.unread.add(self.place(one.token))
         if self._has_more():
@@ -144,7 +149,7 @@ class Tokens(World):
             self.later(0, 3, self._answer_write, number, asked, self.head)
 
     def _answer_write(self, number, asked, place):
-        self.known.append((self.now, place))
+        self.known.append((self.now, place, False))
         self._end(number, "write", "/v1/relationships/write", asked, {}, {"writtenAt": self.token(place, True)})
 
     def _end(self, number, call, path, asked, request, response, save=None, version=None):
@@ -173,7 +178,7 @@ class Tokens(World):
 
     def _answer(self, asked):
         asked.ended = self.now
-        self.known.append((self.now, asked.at))
+        self.known.append((self.now, asked.at, False))
         if asked.save and asked.reply:
             self.later(0, 8, self._show, asked)
         kind, name, relation, user = asked.goal
@@ -247,10 +252,10 @@ class Verdict:
             yield "the log has another state at a snapshot than the service"
         if before[-1] < one.at and any(one.at >= place > before[-1] for place in self.states):
             yield "a check stands before a commit that it saw"
-        said, truth = set(self._said(row, before)), set(self._true(one))
-        for finding in said - truth:
+        said = set(self._said(row, before))
+        for finding in said - set(self._true(one, False)):
             yield "a right check is accused of %s" % finding
-        for finding in truth - said:
+        for finding in set(self._true(one, True)) - said:
             yield "a check passes without %s" % finding
         if one.shows is not None and row["of"] is None and not self.lost:
             yield "a version that was saved is not known"
@@ -270,8 +275,8 @@ class Verdict:
         if row.get("of") is not None and (token is None or any(token < place <= self.place(row["of"]["token"]) for place in self.states)):
             yield "an old token"
 
-    def _true(self, one):
-        known = self.world.known_at(one.began)
+    def _true(self, one, is_sure):
+        known = self.world.known_at(one.began, is_sure)
         if holds(self.world.service.states[one.at], one.goal) != one.reply:
             yield "a wrong reply"
         demanded = {FULL: known, LEAST: one.demand, ANY: 0}[one.kind]

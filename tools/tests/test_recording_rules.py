@@ -5,6 +5,7 @@ import os
 from new_enemy_tools.importing import causes
 from tests.recorded import Client
 from tests.stand_in_spicedb import OPEN, SCHEMA
+from tests.support import TOOLS
 from tests.test_recording_openfga import MODEL, OpenFga, key
 from tests.test_recording_spicedb import FULL, SpiceDb
 
@@ -109,6 +110,7 @@ class Said(OpenFga):
         self.assertEqual(self.found(), {}, self.said_of_audit)
 
     def test_a_folder_that_is_not_of_this_log(self):
+        self.RECORD = os.path.join(TOOLS, "record")
         self.start_service(MODEL)
         for text, said in ((b"x" * 2000, "log/000007.jsonl is no file of a log; give another folder"),
                            (b'{"event":"log","number":7,"service":"spicedb"}\n', "it has a log of spicedb; give another folder")):
