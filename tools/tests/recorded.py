@@ -14,7 +14,8 @@ from random import Random
 from tests.ports import free_port
 from tests.support import TOOLS, Case
 
-READY = 20
+# So many seconds what is waited for may take: what holds sooner is seen at once, and on a machine with much other work all takes long.
+READY = 120
 
 
 class Client:
@@ -27,7 +28,7 @@ class Client:
     def ask(self, path, body, **headers):
         """The status and the JSON of an answer; 0 where there is none."""
         try:
-            self.connection = self.connection or http.client.HTTPConnection("127.0.0.1", self.port, timeout=20)
+            self.connection = self.connection or http.client.HTTPConnection("127.0.0.1", self.port, timeout=READY)
             named = {name.replace("_", "-"): value for name, value in headers.items()}
             self.connection.request("POST", path, json.dumps(body), {**self.headers, **named})
             answer = self.connection.getresponse()
@@ -43,10 +44,11 @@ class Client:
 
 
 class Recorded(Case):
-    """A test with processes, which all end with it."""
+    """A test with processes, which all end with it. `RECORD` is the recorder: tools/record itself where it is the point when that gives up."""
 
     SERVICE = STAND_IN = ""
     PYTHON = sys.executable
+    RECORD = os.path.join(TOOLS, "tests", "patient_recorder.py")
 
     def setUp(self):
         super().setUp()
@@ -73,16 +75,18 @@ class Recorded(Case):
         self.service_port = int(one.stdout.readline().split()[1])
         return one
 
-    def start_recorder(self, *words, folder="log", is_ready=True, said="said"):
-        """A recorder, which can be asked; its standard error goes to a file."""
-        self.port = free_port()
+    def start_recorder(self, *words, folder="log", is_ready=True, said="said", port=None, scheme="http"):
+        """A recorder, which can be asked, at a port of its own or at a given one; its standard error goes to a file."""
+        self.port = port or free_port()
+        one = self.started(folder, "--listen", "127.0.0.1:%d" % self.port, *words, said=said, scheme=scheme)
+        self.wait_for(lambda: not is_ready or "recording " in self.get(said), lambda: self.get(said))
+        self.wait_for(self.is_listening, lambda: self.get(said))
+        return one
+
+    def started(self, folder, *words, said="said", scheme="http"):
         file = open(self.path(said), "w+", encoding="utf-8")
         self.addCleanup(file.close)
-        one = self.start(os.path.join(TOOLS, "record"), "--" + self.SERVICE, "http://127.0.0.1:%d" % self.service_port, "--listen",
-                         "127.0.0.1:%d" % self.port, "--out", folder, *words, stderr=file)
-        self.wait_for(lambda: not is_ready or "recording " in self.get(said), lambda: self.get(said))
-        self.wait_for(self.is_listening)
-        return one
+        return self.start(self.RECORD, "--" + self.SERVICE, "%s://127.0.0.1:%d" % (scheme, self.service_port), "--out", folder, *words, stderr=file)
 
     def is_listening(self):
         with socket.socket() as one:
@@ -91,12 +95,12 @@ class Recorded(Case):
     def wait_for(self, holds, told=lambda: ""):
         until = time.monotonic() + READY
         while not holds():
-            self.assertLess(time.monotonic(), until, told())
+            self.assertLess(time.monotonic(), until, "did not hold within %d seconds: %s" % (READY, told()))
             time.sleep(0.02)
 
     def end(self, one, status=0):
         one.send_signal(signal.SIGTERM)
-        self.assertEqual(one.wait(30), status, self.get("said"))
+        self.assertEqual(one.wait(READY), status, self.get("said") if os.path.exists(self.path("said")) else "")
 
     def files(self, folder="log"):
         return [os.path.join(folder, name) for name in sorted(os.listdir(self.path(folder))) if name.endswith(".jsonl")]
@@ -127,12 +131,16 @@ class Recorded(Case):
         return json.loads(self.get(file).split("\n")[int(line) - 1])
 
     def run_clients(self, count, requests, work, key=None):
-        """So many clients, each of which does so many things, one after the other."""
+        """So many clients, each of which does so many things, one after the other; raises what one of them raised."""
+        faults = []
+
         def run(number):
             client, random = Client(self.port, key), Random("client %d" % number)
             try:
                 for turn in range(requests):
                     work(client, random, number, turn)
+            except Exception as fault:
+                faults.append(fault)
             finally:
                 client.close()
         threads = [threading.Thread(target=run, args=(number,)) for number in range(count)]
@@ -140,6 +148,8 @@ class Recorded(Case):
             one.start()
         for one in threads:
             one.join()
+        for fault in faults:
+            raise fault
 
 
 def counted(values):

@@ -15,12 +15,16 @@ import time
 
 sys.path.insert(0, __file__.rsplit("/", 2)[0] if "/" in __file__ else "..")
 
+from tests.ports import free_port
+
 TOOLS = os.path.dirname(os.path.dirname(os.path.abspath(__file__)))
 STORE = "01HVMMBCMGZNT3SED4Z17ECXCA"
 MODEL = {"id": "M", "schema_version": "1.1", "type_definitions": [
     {"type": "user"}, {"type": "document", "relations": {"viewer": {"this": {}}},
                        "metadata": {"relations": {"viewer": {"directly_related_user_types": [{"type": "user"}]}}}}]}
 CONNECTIONS = 16
+# So many seconds the last checks may take until they are in the log.
+PATIENCE = 120
 ANSWERS = {b"/check": {"allowed": False, "resolution": ""}, b"/changes": {"changes": [], "continuation_token": ""},
            b"/authorization-models": {"authorization_models": [MODEL], "continuation_token": ""},
            b"/stores?": {"stores": [{"id": STORE}], "continuation_token": ""}}
@@ -104,26 +108,29 @@ def main(words):
     seconds, rate = map(int, [*words, *("20", "1000")[len(words):]])
     with tempfile.TemporaryDirectory() as room:
         service = subprocess.Popen([sys.executable, __file__, "serve"], stdout=subprocess.PIPE, text=True)
-        port = int(service.stdout.readline())
+        port, through = int(service.stdout.readline()), free_port()
         recorder = subprocess.Popen([sys.executable, os.path.join(TOOLS, "record"), "--openfga", "http://127.0.0.1:%d" % port, "--listen",
-                                     "127.0.0.1:%d" % (port + 1), "--out", os.path.join(room, "log")], stderr=subprocess.PIPE, text=True)
+                                     "127.0.0.1:%d" % through, "--out", os.path.join(room, "log")], stderr=subprocess.PIPE, text=True)
         try:
             recorder.stderr.readline()
-            times = {port: [], port + 1: []}
+            times = {port: [], through: []}
             for turn in range(seconds):
                 for one in times:
                     asyncio.run(load(one, times[one], 1, rate, turn * rate))
+            recorded, until = [], time.monotonic() + PATIENCE
+            while len(recorded) < len(times[through]) and time.monotonic() < until:
+                time.sleep(0.1)
+                with open(os.path.join(room, "log", "000001.jsonl"), encoding="utf-8") as file:
+                    recorded = [len(line) for line in file if '"event":"check"' in line]
             recorder.terminate()
             used = processor(recorder)
-            with open(os.path.join(room, "log", "000001.jsonl"), encoding="utf-8") as file:
-                recorded = [len(line) for line in file if '"event":"check"' in line]
         finally:
             service.terminate()
             service_used = processor(service)
             recorder.kill()
-    asked = len(times[port + 1])
+    asked = len(times[through])
     print("the service alone: %s" % shown(times[port]))
-    print("through the recorder: %s" % shown(times[port + 1]))
+    print("through the recorder: %s" % shown(times[through]))
     print("asked %d, recorded %d, of %d bytes each" % (asked, len(recorded), sum(recorded) / len(recorded)))
     print("processor time of a check: the service %.2f ms, the recorder %.2f ms" % (1000 * service_used / (len(times[port]) + asked), 1000 * used / asked))
 

@@ -14,6 +14,8 @@ PERMISSIONS = "/authzed.api.v1.PermissionsService/"
 DOCUMENTS = ["d%d" % number for number in range(6)]
 USERS = ["u%d" % number for number in range(5)]
 FULL = {"fullyConsistent": True}
+# So many seconds an answer may take on a machine that is overloaded.
+LONG = 120
 
 
 class Client:
@@ -24,10 +26,10 @@ class Client:
 
     def ask(self, name, body, *metadata):
         call = self.channel.unary_unary(PERMISSIONS + name, encoder(name + "Request"), decoder(name + "Response"))
-        return call.with_call(body, metadata=metadata, timeout=20)
+        return call.with_call(body, metadata=metadata, timeout=LONG)
 
     def listed(self, name, body):
-        return list(self.channel.unary_stream(PERMISSIONS + name, encoder(name + "Request"), decoder(name + "Response"))(body, timeout=20))
+        return list(self.channel.unary_stream(PERMISSIONS + name, encoder(name + "Request"), decoder(name + "Response"))(body, timeout=LONG))
 
     def write(self, operation, *parts):
         answer, _ = self.ask("WriteRelationships", {"updates": [{"operation": "OPERATION_" + operation, "relationship": relationship_of(one)}
@@ -73,7 +75,7 @@ def unchanged(port):
     found = [answer["permissionship"], dict(call.initial_metadata()).get("x-first")]
     for metadata, name in (((("x-refuse", "1"),), "CheckPermission"), ((), "ExpandPermissionTree")):
         try:
-            client.channel.unary_unary(PERMISSIONS + name)(b"", metadata=metadata, timeout=5)
+            client.channel.unary_unary(PERMISSIONS + name)(b"", metadata=metadata, timeout=LONG)
         except grpc.RpcError as fault:
             found += [fault.code().name, fault.details(), dict(fault.trailing_metadata()).get("x-why")]
     print(found)

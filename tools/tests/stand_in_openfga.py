@@ -69,10 +69,13 @@ class OpenFga:
                 (state.add if kind == "WRITE" else state.discard)(key)
                 self.written.append(time.monotonic())
                 self.feed.append({"tuple_key": given, "operation": "TUPLE_OPERATION_" + kind, "timestamp": at})
-                # A write is whole: nobody sees a state within it.
-                self.states.append(None)
-            self.states[-1] = frozenset(state)
+            self.add_states(len(keys), state)
         handler.answer({})
+
+    def add_states(self, count, state):
+        """The state behind so many changes of a write, all at once: checks, which look at the last one, see none within a write."""
+        if count:
+            self.states += [None] * (count - 1) + [frozenset(state)]
 
     def control_pause(self, handler, method, body, query):
         self.is_paused = True

@@ -46,8 +46,7 @@ class Raced(OpenFga):
                 change = {"tuple_key": given, "operation": "TUPLE_OPERATION_" + kind, "timestamp": at}
                 self.feed.append(change)
                 self.placed.append((place, stamped, change))
-                self.states.append(None)
-            self.states[-1] = frozenset(state)
+            self.add_states(len(listed), state)
             self.placed.sort(key=lambda one: one[0])
         handler.answer({})
 

@@ -73,7 +73,7 @@ class Case(unittest.TestCase):
         return [json.loads(line) for line in self.get(name).splitlines()]
 
     def run_process(self, command, *words, stdin=""):
-        return subprocess.run([sys.executable, NE, command, *words], cwd=self.room, input=stdin, capture_output=True, text=True, timeout=60)
+        return subprocess.run([sys.executable, NE, command, *words], cwd=self.room, input=stdin, capture_output=True, text=True, timeout=300)
 
     def run_tool(self, *words, stdin="", err=None):
         """A run of a command in this process, which is quicker: its status and what it wrote."""
@@ -136,6 +136,6 @@ class Case(unittest.TestCase):
         read = read_trace(self.get(trace).encode())
         records = [record(read, entry) for entry in read.entries.values()]
         joined = self.get(trace) + "---\n" + "\n".join(records)
-        run = subprocess.run([os.environ["NEW_ENEMY"]], input=joined.encode(), capture_output=True, timeout=60)
+        run = subprocess.run([os.environ["NEW_ENEMY"]], input=joined.encode(), capture_output=True, timeout=300)
         self.assertIn(run.returncode, (0, 1), run.stderr)
         return run.stdout.decode()

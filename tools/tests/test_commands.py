@@ -19,7 +19,7 @@ OLD = {"import_trace": "import", "make_evidence": "make-evidence", **{name: name
 
 
 def run(words: Sequence[str], **how: object) -> Run:
-    ended = subprocess.run(words, capture_output=True, text=True, timeout=60, **how)
+    ended = subprocess.run(words, capture_output=True, text=True, timeout=300, **how)
     return Run(ended.returncode, ended.stdout, ended.stderr)
 
 
@@ -72,7 +72,7 @@ class OldNames(Case):
     def test_one_line_on_a_terminal(self) -> None:
         for name, command in OLD.items():
             parent, child = pty.openpty()
-            ended = subprocess.run([sys.executable, os.path.join(TOOLS, name), "--help"], stdout=subprocess.PIPE, stderr=child, timeout=60)
+            ended = subprocess.run([sys.executable, os.path.join(TOOLS, name), "--help"], stdout=subprocess.PIPE, stderr=child, timeout=300)
             os.close(child)
             self.assertEqual(os.read(parent, 1 << 16).decode(),
                              "tools/%s is `tools/ne %s` now; the old name goes with the next release\r\n" % (name, command))

@@ -73,7 +73,7 @@ class Devices(Case):
         self.put("t", trace)
         self.put("e", evidence)
         run = subprocess.run(["sh", "-c", 'exec "$@" ' + redirected, "sh", self.program, *words], cwd=self.room, stdin=subprocess.DEVNULL,
-                             capture_output=True, timeout=60)
+                             capture_output=True, timeout=300)
         return Answer(run.returncode, run.stdout, run.stderr)
 
     def test_commands_whose_output_takes_nothing(self):
@@ -105,7 +105,7 @@ class Devices(Case):
         for words, told in ((("audit", "/dev/stdin", "e"), b"trace line 1: too long\n"), (("audit", "t", "/dev/stdin"), b"evidence line 1: too long\n"),
                             (("make", "/dev/stdin"), b"trace line 1: too long\n"), (("history", "/dev/stdin", "doc:a#viewer@1"), b"trace line 1: too long\n")):
             with open("/dev/zero", "rb") as zeros, subprocess.Popen(["tr", "\\0", " "], stdin=zeros, stdout=subprocess.PIPE) as spaces:
-                run = subprocess.run([self.program, *words], cwd=self.room, stdin=spaces.stdout, capture_output=True, timeout=60)
+                run = subprocess.run([self.program, *words], cwd=self.room, stdin=spaces.stdout, capture_output=True, timeout=300)
                 spaces.stdout.close()
             self.assertEqual((run.returncode, run.stdout, run.stderr), (2, b"", told), words)
 
@@ -165,11 +165,11 @@ class Devices(Case):
                 run.stdin.flush()
                 run.send_signal(signal.SIGSTOP)
                 run.send_signal(signal.SIGCONT)
-            out, err = run.communicate(timeout=60)
+            out, err = run.communicate(timeout=300)
         self.assertEqual((run.returncode, out, err), (0, CLEAN, b""))
 
     def run_words(self, *words):
-        return subprocess.run([self.program.encode(), *words], input=self.proved, capture_output=True, timeout=60)
+        return subprocess.run([self.program.encode(), *words], input=self.proved, capture_output=True, timeout=300)
 
     def test_words(self):
         """Words that ask for nothing are a fault of usage, also one that is not UTF-8."""

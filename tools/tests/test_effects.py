@@ -118,7 +118,7 @@ class Audited(Case):
     def audit(self, values: list[dict]) -> str:
         """The report on a trace, by evidence that the program makes."""
         run = subprocess.run([os.environ["NEW_ENEMY"], "audit", self.put("audited", values), "--make"], capture_output=True,
-                             text=True, timeout=60)
+                             text=True, timeout=300)
         self.assertIn(run.returncode, (0, 1), run.stderr)
         return run.stdout
 

@@ -272,7 +272,7 @@ class Evidence(Case):
         seen = Counter()
         for number in range(RANDOM_TRACES):
             joined = RandomInput(Random("judged %d" % number)).joined()
-            report = subprocess.run([os.environ["NEW_ENEMY"]], input=joined, capture_output=True, timeout=60).stdout.decode()
+            report = subprocess.run([os.environ["NEW_ENEMY"]], input=joined, capture_output=True, timeout=300).stdout.decode()
             part, evidence = split_joined(joined)
             trace = read_trace(part)
             records = records_of(evidence, trace, set(trace.entries))

@@ -64,7 +64,7 @@ def events_of(random, count, has_between=False):
 
 class GoingOn(CoreCase):
     def report(self, name):
-        run = subprocess.run([os.environ["NEW_ENEMY"], "audit", self.path(name), "--make"], capture_output=True, text=True, timeout=60)
+        run = subprocess.run([os.environ["NEW_ENEMY"], "audit", self.path(name), "--make"], capture_output=True, text=True, timeout=300)
         self.assertIn(run.returncode, (0, 1), run.stderr)
         return run.stdout
 

@@ -1,6 +1,7 @@
 """ne join: the logs of several recorders say what that of one in front of all would say."""
 import json
 import os
+import re
 from unittest import mock
 
 from new_enemy_tools.importing.causes import VERSION_UNKNOWN
@@ -241,7 +242,7 @@ class Processes(OpenFga):
 
     def found_of(self, folder):
         """What an audit finds of each check, by what was asked and answered of which version."""
-        self.import_log(folder=folder)
+        self.said_of_import = self.import_log(folder=folder)
         places = {"%s:%d" % (name, line): json.loads(row) for name in self.files(folder) for line, row in enumerate(self.get(name).splitlines(), 1)}
         for row in list(places.values()):
             if folder == "all" and "file" in row:
@@ -253,19 +254,19 @@ class Processes(OpenFga):
         self.start_two("0.3")
         self.run_clients(4, 60, self.work)
         for recorder, _ in self.two:
-            recorder.terminate()
-        for recorder, _ in self.two:
-            self.assertEqual(recorder.wait(30), 0)
-        self.between.terminate()
-        self.assertEqual(self.between.wait(30), 0)
+            self.end(recorder)
+        self.end(self.between)
         run = self.run_process("join", "--out", "all", "left", "right")
         self.assertEqual((run.returncode, run.stderr), (0, ""))
         self.assertRegex(run.stdout, "joined 2 logs of openfga: [0-9]+ changes")
         one, both = self.found_of("one"), self.found_of("all")
         self.assertIn("F2 old token", str(one))
         self.assertIn("F10 wrong reply", str(one))
-        # Each of them has its own gaps, and a check in a gap has no finding.
-        self.assertLess(len([found for found in one if found not in both]), 0.1 * len(one) + 4)
+        # Each of them has its own gaps; a check in a gap has no finding, and one of a version that was saved in a gap not all.
+        lost = sum(row.get("lost", 0) for row in self.of_kind("gap", "all"))
+        in_part = re.search(r"(?m)^checks: .*?([0-9,]+) in part", self.said_of_import)
+        unseen = lost + (int(in_part[1].replace(",", "")) if in_part else 0)
+        self.assertLessEqual(len([found for found in one if found not in both]), unseen, (one, both))
         self.assertEqual([found for found in both if found not in one and "F6" in str(found)], [])
         shown = [row for row in self.of_kind("check", "all") if "version" in row]
         self.assertGreater(len({row["clock"] for row in shown}), 1)
@@ -287,8 +288,7 @@ class OfSpiceDb(SpiceDb):
         left.close()
         right.close()
         for recorder in (first, second):
-            recorder.terminate()
-            self.assertEqual(recorder.wait(30), 0)
+            self.end(recorder)
         run = self.run_process("join", "--out", "all", "right", "left")
         self.assertEqual((run.returncode, run.stderr), (0, ""))
         self.import_log(folder="all")

@@ -83,7 +83,7 @@ class Told(KeptCase):
         self.assertIn("trace.gz", self.files(3))
         with gzip.open(self.path("days/day000003/trace.gz")) as file:
             self.put("unpacked", file.read())
-        run = subprocess.run([WORDS[1], "audit", self.path("unpacked"), "--make"], capture_output=True, text=True, timeout=60)
+        run = subprocess.run([WORDS[1], "audit", self.path("unpacked"), "--make"], capture_output=True, text=True, timeout=300)
         self.assertIn("F10 wrong reply", run.stdout)
         self.assertIn("F10 wrong reply, as this tool finds", self.explained("days/day000003", self.line_of(3)))
 

@@ -11,7 +11,7 @@ RANDOM_TRACES = int(os.environ.get("RANDOM_TRACES", "60"))
 
 class Made(Case):
     def program(self, *words):
-        return subprocess.run([os.environ["NEW_ENEMY"], *words], cwd=self.room, capture_output=True, timeout=60)
+        return subprocess.run([os.environ["NEW_ENEMY"], *words], cwd=self.room, capture_output=True, timeout=300)
 
     def test_random_traces(self):
         wrong = 0

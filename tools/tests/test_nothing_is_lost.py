@@ -135,7 +135,7 @@ class StandIn:
 
 class NothingIsLost(Case):
     def audit(self):
-        run = subprocess.run([os.environ["NEW_ENEMY"], "audit", self.path("trace.jsonl"), "--make"], capture_output=True, text=True, timeout=60)
+        run = subprocess.run([os.environ["NEW_ENEMY"], "audit", self.path("trace.jsonl"), "--make"], capture_output=True, text=True, timeout=300)
         self.assertIn(run.returncode, (0, 1), run.stderr)
         found = {}
         for line in run.stdout.splitlines()[:-3]:

@@ -1,14 +1,15 @@
 """Events that an application writes itself, beside a log of the changes alone: ne record --changes-only, and ne join."""
 import importlib.util
 import os
+import time
 from unittest import mock
 
+from new_enemy_tools.importing.times import nanoseconds
 from new_enemy_tools.recording import own_events
 from new_enemy_tools.recording.joining import Join
 from new_enemy_tools.recording.own_events import BEFORE, BEHIND, OTHER, Timed
 from new_enemy_tools.recording.places import Places
 from new_enemy_tools.recording.sketches import Given, JoinFault, Row
-from tests.recorded import Client
 from tests.simulation import run_apart
 from tests.stand_in_openfga import STORE
 from tests.support import EXAMPLES, Case
@@ -179,10 +180,7 @@ class Processes(OpenFga):
         """Stale replies that the service plants are found, and no other."""
         self.start_service(MODEL, "0.3", "planted")
         self.prepare()
-        said_to = open(self.path("said"), "w+", encoding="utf-8")
-        self.addCleanup(said_to.close)
-        recorder = self.start(os.path.join(os.path.dirname(os.path.dirname(__file__)), "record"), "--openfga", "http://127.0.0.1:%d" % self.service_port,
-                              "--changes-only", "--out", "log", stderr=said_to)
+        recorder = self.started("log", "--changes-only")
         self.wait_for(lambda: self.of_kind("read") if "recording" in self.get("said") else False, lambda: self.get("said"))
         module = library()
         apps = [module.Events(self.path("events"), STORE) for _ in range(2)]
@@ -206,11 +204,9 @@ class Processes(OpenFga):
         count = sum(app.count for app in apps)
         for app in apps:
             app.close()
-        # The changes are read up to a second after the last check.
-        client = Client(self.service_port)
-        self.write(client, key("user:last", "viewer", "document:x"))
-        client.close()
-        self.wait_for(lambda: "last" in self.get("log/000001.jsonl"))
+        # A check is placed where the changes were read beyond it, by as much as clocks may be apart.
+        until = time.time_ns() + 20_000_000
+        self.wait_for(lambda: nanoseconds(self.of_kind("read")[-1]["until"]) > until)
         self.end(recorder)
         run = self.run_process("join", "--skew", "20", "--out", "all", "log", *[app.path for app in apps])
         self.assertEqual((run.returncode, run.stderr), (0, ""))

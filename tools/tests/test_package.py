@@ -137,7 +137,7 @@ class Used(Case):
         for command, lines in shown:
             with self.subTest(command=command):
                 printed = subprocess.run(command, shell=True, cwd=folder, stdin=subprocess.DEVNULL, stdout=subprocess.PIPE, stderr=subprocess.STDOUT,
-                                         text=True, timeout=60, env=plain()).stdout
+                                         text=True, timeout=300, env=plain()).stdout
                 self.assertEqual(printed.splitlines(), lines)
 
     def assert_page(self, path: str, words: list[str]) -> None:
@@ -145,7 +145,7 @@ class Used(Case):
         if shutil.which("man") is None:
             self.skipTest("man is not installed")
         set_by_man = subprocess.run(["man", "--warnings", "-l", path], env=plain(MANWIDTH="200", MAN_KEEP_FORMATTING=""), stdin=subprocess.DEVNULL,
-                                    capture_output=True, text=True, timeout=60)
+                                    capture_output=True, text=True, timeout=300)
         self.assertEqual((set_by_man.returncode, set_by_man.stderr), (0, ""))
         page = re.sub(".\b", "", set_by_man.stdout)
         for word in words:

@@ -13,7 +13,7 @@ NAMES = sorted(os.listdir(FOLDER))
 
 class Pictures(unittest.TestCase):
     def test_they_are_what_is_drawn(self) -> None:
-        run = subprocess.run([sys.executable, os.path.join(TOP, "tools", "dev", "pictures"), "--compare"], capture_output=True, text=True, timeout=60)
+        run = subprocess.run([sys.executable, os.path.join(TOP, "tools", "dev", "pictures"), "--compare"], capture_output=True, text=True, timeout=300)
         self.assertEqual((run.returncode, run.stdout, run.stderr), (0, "", ""))
 
     def test_each_is_shown_with_words(self) -> None:

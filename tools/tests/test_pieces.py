@@ -37,7 +37,7 @@ def log(checks, first="0"):
 
 class PiecesCase(Case):
     def audit(self, *words):
-        run = subprocess.run([os.environ["NEW_ENEMY"], *words], cwd=self.room, stdin=subprocess.DEVNULL, capture_output=True, text=True, timeout=60)
+        run = subprocess.run([os.environ["NEW_ENEMY"], *words], cwd=self.room, stdin=subprocess.DEVNULL, capture_output=True, text=True, timeout=300)
         return run.returncode, run.stdout, run.stderr
 
     def import_log(self, *words, checks=60):

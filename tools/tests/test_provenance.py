@@ -79,7 +79,7 @@ class Checkout(unittest.TestCase):
 
     def run_command(self, *words, command=None, kit=False, meanwhile=":", **more):
         with open(os.path.join(EXAMPLES, "one_proved_check"), "rb") as given:
-            return subprocess.run([command or self.path("new_enemy"), *words], cwd=self.room, stdin=given, timeout=60,
+            return subprocess.run([command or self.path("new_enemy"), *words], cwd=self.room, stdin=given, timeout=300,
                                   **self.how(kit, meanwhile, **more))
 
     def assert_runs(self, command=None):
@@ -203,7 +203,7 @@ class Proving(Checkout):
         told = os.path.join(self.room, "told")
         wait = "until grep -q 'at work: zookie' '%s'; do sleep 0.05; done" % told
         with open(told, "wb") as err:
-            run = subprocess.run([self.path("new_enemy"), "--prove"], stdin=subprocess.DEVNULL, stdout=subprocess.DEVNULL, stderr=err, timeout=60,
+            run = subprocess.run([self.path("new_enemy"), "--prove"], stdin=subprocess.DEVNULL, stdout=subprocess.DEVNULL, stderr=err, timeout=300,
                                  env=self.how(True, PROVER=wait, NEW_ENEMY_MINUTE="0.1")["env"])
         self.assertEqual(run.returncode, 0)
         with open(told, encoding="utf-8") as file:

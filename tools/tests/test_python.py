@@ -19,7 +19,7 @@ class Versions(Case):
     def test_an_older_python(self):
         for module in ("ne", "running"):
             run = subprocess.run([sys.executable, "-c", "import sys; sys.version_info = (3, 8, 0); import new_enemy_tools.commands." + module],
-                                 cwd=TOOLS, capture_output=True, text=True, timeout=60)
+                                 cwd=TOOLS, capture_output=True, text=True, timeout=300)
             self.assertEqual((run.returncode, run.stderr), (3, "the tools need Python 3.9 or a later one, and this is 3.8\n"))
 
     def test_expressions(self):
@@ -39,7 +39,7 @@ class Versions(Case):
                     if re.search("[*+?}][+]", pattern if isinstance(pattern, str) else pattern.decode("latin-1")):
                         print(one.name, name)
             """
-        run = subprocess.run([sys.executable, "-c", code], cwd=TOOLS, capture_output=True, text=True, timeout=60)
+        run = subprocess.run([sys.executable, "-c", code], cwd=TOOLS, capture_output=True, text=True, timeout=300)
         self.assertEqual((run.returncode, run.stdout), (0, ""), run.stderr)
 
 

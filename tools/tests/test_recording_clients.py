@@ -59,7 +59,7 @@ class Clients(OpenFga):
 @unittest.skipUnless(shutil.which("curl"), "there is no curl")
 class Curl(Clients):
     def curl(self, call, body, *words):
-        run = subprocess.run(["curl", "-sS", "--max-time", "20", "-w", " %{http_code}", *words, "-d", json.dumps(body),
+        run = subprocess.run(["curl", "-sS", "--max-time", "120", "-w", " %{http_code}", *words, "-d", json.dumps(body),
                               "http://127.0.0.1:%d/stores/%s/%s" % (self.port, STORE, call)], capture_output=True, text=True)
         self.assertEqual((run.returncode, run.stderr), (0, ""))
         text, _, status = run.stdout.rpartition(" ")
@@ -80,7 +80,7 @@ class Curl(Clients):
         self.begin()
         config = "".join('url = "http://127.0.0.1:%d/stores/%s/check"\ndata = %s\noutput = "/dev/null"\nwrite-out = "%%{http_code} %%{num_connects}\\n"\n'
                          "silent\nnext\n" % (self.port, STORE, json.dumps(json.dumps(self.body(USERS[0], "viewer", DOCUMENTS[0])))) for _ in range(20))
-        run = subprocess.run(["curl", "--config", "-"], input=config.removesuffix("next\n"), capture_output=True, text=True, timeout=60)
+        run = subprocess.run(["curl", "--config", "-"], input=config.removesuffix("next\n"), capture_output=True, text=True, timeout=300)
         self.assertEqual(run.stdout.split(), ["200", "1", *["200", "0"] * 19], run.stderr)
         self.wait_for(lambda: len(self.of_kind("check")) == 20)
 
@@ -92,7 +92,7 @@ class Node(Clients):
         asked = [self.body(USERS[0], "viewer", DOCUMENTS[0]), self.body(USERS[1], "viewer", DOCUMENTS[1]), self.body(USERS[0], "viewer", EARLY[0]),
                  self.body(USERS[0], "editor", DOCUMENTS[2]), self.body(USERS[4], "viewer", EARLY[1])]
         run = subprocess.run(["node", self.put("ask.js", SCRIPT), str(self.port), "/stores/%s/check" % STORE, json.dumps(asked)], capture_output=True,
-                             text=True, timeout=60)
+                             text=True, timeout=300)
         self.assertEqual((run.returncode, run.stderr), (0, ""))
         answers = json.loads(run.stdout)
         self.assertEqual(len(answers), 70)

@@ -4,8 +4,9 @@ import signal
 import threading
 from collections import Counter
 
-from tests.recorded import Client
+from tests.recorded import READY, Client, Recorded
 from tests.stand_in_openfga import STORE
+from tests.support import TOOLS
 from tests.test_recording_gaps import Failing, keeper_of
 from tests.test_recording_openfga import NEWEST, key
 from tests.test_recording_spicedb import FULL, SpiceDb
@@ -14,7 +15,12 @@ ANSWERS, CHANGES = "the recorder ended before their answers: ", "the recorder en
 DID_NOT_RUN, KILLED = "the recorder did not run", "the recorder was killed"
 
 
+RECORD = os.path.join(TOOLS, "record")
+
+
 class Ending(Failing):
+    RECORD = RECORD
+
     def lost(self):
         """What the gaps of the log count, by their reasons."""
         found = Counter()
@@ -53,12 +59,14 @@ class Ending(Failing):
 
     def end_by(self, number):
         self.recorder.send_signal(number)
-        self.assertEqual(self.recorder.wait(30), 0, self.get("said"))
+        self.assertEqual(self.recorder.wait(READY), 0, self.get("said"))
         self.assertEqual(self.events()[-1]["event"], "closed")
 
 
 class Alone(Ending):
-    """The service goes on, so the log has all."""
+    """The service goes on, so the log has all, where it is waited for long enough."""
+
+    RECORD = Recorded.RECORD
 
     def ended_by(self, number):
         self.begin()
@@ -277,13 +285,15 @@ class AtOnce(Ending):
                 recorder.send_signal(signal.SIGINT)
                 service.terminate()
             clients.join()
-            self.assertEqual(recorder.wait(30), 0, self.get("said"))
+            self.assertEqual(recorder.wait(READY), 0, self.get("said"))
             missing = set(answered) - self.users()
             self.assertLessEqual(len(missing), sum(self.lost().values()), (missing, self.of_kind("gap")))
 
 
 class SpiceDbEnding(SpiceDb):
     """Its answers name their snapshots, and wait for the changes up to these."""
+
+    RECORD = RECORD
 
     def ended_with(self, *words):
         self.service = self.start_service(*words)

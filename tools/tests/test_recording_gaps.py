@@ -5,7 +5,6 @@ import os
 import resource
 import signal
 import threading
-import time
 import urllib.request
 from collections import Counter
 from random import Random
@@ -16,7 +15,7 @@ from tests.recorded import Client, Recorded
 from tests.stand_in_openfga import STORE
 from tests.test_recording_openfga import MODEL, OpenFga, key
 from tests.test_recording_spicedb import SpiceDb
-from tests.support import TOP
+from tests.support import TOOLS
 
 SECRET = "a-secret-that-nobody-may-find"
 
@@ -87,7 +86,8 @@ class Failing(OpenFga):
 
 class Killed(Failing):
     def test_at_random_moments(self):
-        """The recorder, or its keeper alone, is killed and started again; what passes while there is none goes by the service itself."""
+        """The recorder, or its keeper alone, is killed at some answer and started again; what passes while there is none goes by the
+        service itself."""
         self.start_service()
         random = Random(5)
         turns = 5
@@ -99,7 +99,8 @@ class Killed(Failing):
                 self.work(client, chance, number + 8 * turn, step)
             clients = threading.Thread(target=self.run_clients, args=(4, 60, work))
             clients.start()
-            time.sleep(0.2 + random.random())
+            passed = self.passed[200] + random.randint(20, 180)
+            self.wait_for(lambda passed=passed: self.passed[200] >= passed)
             os.kill(keeper if turn == 2 else recorder.pid, signal.SIGKILL)
             clients.join()
             if turn == 2:
@@ -111,8 +112,9 @@ class Killed(Failing):
                 # The keeper ends by itself, as the proxy is gone.
                 self.wait_for(lambda keeper=keeper: not os.path.exists("/proc/%d" % keeper))
         self.end(self.start_recorder())
-        self.assertGreater(self.assert_once(), 50)
         gaps = self.of_kind("gap")
+        # Of the checks that passed, and those are most, each is in the log or counted, but for those of the keeper that was killed.
+        self.assertGreater(self.assert_once() + sum(gap.get("lost", 0) for gap in gaps), 50)
         self.assertEqual(Counter(row["reason"] for row in gaps)["the recorder did not run"], turns + 1, gaps)
         said = self.import_log()
         self.assertEqual(said.count("Z: the recorder did not run"), turns + 1)
@@ -156,7 +158,8 @@ class KilledSpiceDb(SpiceDb):
             keeper = keeper_of(recorder)
             clients = threading.Thread(target=self.run_clients, args=(4, 60, work))
             clients.start()
-            time.sleep(0.2 + random.random())
+            recorded = len(self.of_kind("check")) + random.randint(6, 60)
+            self.wait_for(lambda recorded=recorded: len(self.of_kind("check")) >= recorded)
             for one in (keeper, recorder.pid)[::random.choice((1, -1))]:
                 os.kill(one, signal.SIGKILL)
             clients.join()
@@ -191,6 +194,8 @@ class Connections(Failing):
 
 
 class Full(Failing):
+    RECORD = os.path.join(TOOLS, "record")
+
     def test_a_log_that_cannot_grow(self):
         """Requests pass while the log can't be written, and it goes on with the gap where it can again."""
         self.start_service()
@@ -199,7 +204,7 @@ class Full(Failing):
         resource.prlimit(keeper, resource.RLIMIT_FSIZE, (20_000, resource.RLIM_INFINITY))
         self.run_clients(8, 125, self.work)
         self.assertEqual(set(self.passed), {200})
-        self.assertIn("cannot write the log: File too large", self.get("said"))
+        self.wait_for(lambda: "cannot write the log: File too large" in self.get("said"))
         resource.prlimit(keeper, resource.RLIMIT_FSIZE, (resource.RLIM_INFINITY, resource.RLIM_INFINITY))
         self.wait_for(lambda: "the log goes on" in self.get("said"))
         self.end(recorder)
@@ -243,7 +248,7 @@ class Behind(SpiceDb):
     def test_a_watch_that_stands_still(self):
         """Checks that wait longer than they may are lost, and the log says so; the check of a version that was lost is no finding."""
         self.start_service()
-        recorder = self.start_recorder("--hold", "1")
+        recorder = self.start_recorder("--hold", "5")
         client = Client(self.port)
         self.prepare(client)
         client.ask("/v1/control/pause", {})
@@ -256,7 +261,7 @@ class Behind(SpiceDb):
         client.close()
         self.wait_for(lambda: self.of_kind("check"))
         self.end(recorder)
-        self.assertEqual([(row["reason"], row["lost"]) for row in self.of_kind("gap")], [("the changes were more than 1 seconds behind", 1)])
+        self.assertEqual([(row["reason"], row["lost"]) for row in self.of_kind("gap")], [("the changes were more than 5 seconds behind", 1)])
         self.assertIn("audited in part 1: %s; not looked for: F2, F6" % causes.VERSION_UNKNOWN, self.import_log())
         self.assertEqual(self.found(), {})
 
@@ -275,7 +280,7 @@ class Secrets(Recorded):
                     words = file.read().split(b"\0")
             except OSError:
                 continue
-            if os.path.join(TOP, "tools", "record").encode() in words:
+            if self.RECORD.encode() in words:
                 self.assertNotIn(SECRET.encode(), b" ".join(words))
 
 

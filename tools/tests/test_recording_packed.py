@@ -2,6 +2,7 @@
 import gzip
 import os
 import random
+from unittest import mock
 
 from new_enemy_tools.importing.chained import end_of, head_of, in_chain
 from new_enemy_tools.importing.opened import opened
@@ -14,6 +15,12 @@ from tests.test_recording_openfga import MODEL, OpenFga, key
 
 
 class Files(Case):
+    def setUp(self):
+        super().setUp()
+        patient = mock.patch("new_enemy_tools.recording.log_files.PATIENCE", 120)
+        patient.start()
+        self.addCleanup(patient.stop)
+
     def log(self, packs=True, size=300):
         log = LogFiles(self.path("log"), "openfga", size=size, packs=packs)
         log.lock()
@@ -96,13 +103,19 @@ class Processes(OpenFga):
         self.prepare()
         recorder = self.start_recorder("--compress", "--file-bytes", "2000")
         client = Client(self.port)
-        for number in range(20):
+        number = 0
+
+        def names():
+            return sorted(name for name in os.listdir(self.path("log")) if name != "lock")
+        # How much is written at once, and so to one file, is up to the machine.
+        while len([name for name in names() if name.endswith(".jsonl.gz")]) < 4:
             self.write(client, key("user:a%d" % number, "viewer", "document:1"))
             self.check(client, "user:a%d" % number, "viewer", "document:early1")
+            number += 1
         client.close()
         self.end(recorder)
-        names = sorted(name for name in os.listdir(self.path("log")) if name != "lock")
-        self.assertTrue(len(names) > 3 and all(name.endswith(".jsonl.gz") for name in names), names)
+        names = names()
+        self.assertTrue(all(name.endswith(".jsonl.gz") for name in names), names)
         self.imported("events", *["log/" + name for name in names])
         packed = self.get("trace.jsonl")
         os.mkdir(self.path("plain"))

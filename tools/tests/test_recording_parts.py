@@ -143,7 +143,7 @@ class Order(Case):
         made = Sequencer()
         made.put_entry(9, 1, b"old", 1)
         made.put_entry(8, 3, b"young", 1)
-        self.assertEqual([one.data for one in made.late(2)], [b"old"])
+        self.assertEqual([one.data for one in made.take_out(lambda one: one.since < 2)], [b"old"])
         self.assertEqual([one.data for one in made.ready], [b"young"])
 
     def test_what_was_known_when(self):

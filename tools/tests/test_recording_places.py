@@ -220,6 +220,13 @@ class Writes(Case):
         self.assertEqual([self.service.known(at) for at in (3, 4)], [0, 1])
         self.assertEqual((len(self.service.places.rows), len(self.service.places.rows[0].changes)), (1, 2))
 
+    def test_a_horizon_is_learnt_up_to_when_the_change_was_shown(self):
+        """A reading that takes long may have looked at its end, so it began too early to say how late changes are shown."""
+        self.write(3, 4, "a")
+        self.read(5, 6)
+        self.read(8, 20, change("a"))
+        self.assertEqual(self.service.horizon, 17)
+
     def test_a_write_that_need_change_nothing_proves_nothing(self):
         self.write(3, 4, "a", on_duplicate="ignore")
         self.read(5, 9, change("a"))

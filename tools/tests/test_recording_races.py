@@ -2,8 +2,11 @@
 import os
 import socket
 import time
+from unittest import mock
 
-from tests.recorded import Client
+from new_enemy_tools.recording.keeper import Settings
+from new_enemy_tools.recording.openfga_feed import OpenFgaFeed
+from tests.recorded import READY, Client
 from tests.stand_in_openfga import STORE
 from tests.test_recording_gaps import keeper_of
 from tests.test_recording_openfga import DOCUMENTS, EARLY, MODEL, NEWEST, USERS, OpenFga, key
@@ -33,7 +36,17 @@ class Raced(OpenFga):
             else:
                 self.check(client, random.choice((user, "user:c%d.%d" % (random.randrange(8), turn - 1))), "viewer", thing)
         self.run_clients(8, 60, work)
+        # Where nothing else comes, each check is recorded.
+        self.wait_for(lambda: self.count() == 8 * 60, lambda: str(self.count()))
+        lost = self.lost()
+        for user in USERS:
+            self.check(self.client, user, "viewer", DOCUMENTS[0])
         self.end(recorder)
+        self.assertEqual(self.lost(), lost)
+
+    def count(self):
+        """How many of the requests of clients are in the log or counted: each write makes one change."""
+        return len([row for row in self.of_kind("write") if "base" not in row]) + len(self.of_kind("check")) + self.lost()
 
     def test_places_that_are_given_before_the_commit(self):
         """Each change is in the log, most checks are, and no right reply is called wrong."""
@@ -43,14 +56,12 @@ class Raced(OpenFga):
             self.run_load(self.begin(race, 0))
             self.import_log()
             self.assertEqual(self.found(), {}, self.said_of_audit)
-            checks, writes = len(self.of_kind("check")), [row for row in self.of_kind("write") if "base" not in row]
-            # Of the slower ones most come at once with others of their document.
-            self.assertGreater(checks, self.lost() * (4 if race < 0.01 else 1))
-            self.assertEqual(len(writes) + checks + self.lost(), 8 * 60)
+            self.assertEqual(self.count(), 8 * 60 + len(USERS))
+            self.assertGreater(len(self.of_kind("check")), len(USERS))
 
     def test_a_horizon_that_a_write_proves_is_learnt(self):
         """Then a check that saw a change by another way waits until that is shown, and is no wrong reply."""
-        recorder = self.begin(0, 1)
+        recorder = self.begin(0, 3)
         self.write(self.client, key("user:own", "viewer", "document:1"))
         self.wait_for(lambda: len(self.of_kind("write")) > 1)
         direct = Client(self.service_port)
@@ -62,23 +73,38 @@ class Raced(OpenFga):
         self.import_log()
         self.assertEqual((self.found(), len(self.of_kind("check"))), ({}, 1), self.said_of_audit)
 
-    def test_a_right_that_is_revoked_at_the_service_in_a_quiet_second(self):
+    def test_how_long_the_readings_rest(self):
+        """As long after many that gave nothing as after the first."""
+        feed = OpenFgaFeed(Settings("openfga", "http://127.0.0.1:1", "log", STORE, None, False, 30, 0.05, 0, 1, 1))
+        feed.overlap, read, ends = mock.Mock(), [], [None] * 200 + [InterruptedError]
+        with mock.patch.object(feed, "_read"), mock.patch("time.sleep", mock.Mock(side_effect=ends)) as sleep:
+            with self.assertRaises(InterruptedError):
+                feed.run(None, read.append)
+        self.assertEqual((len(read), {words[0] for words, _ in sleep.call_args_list}), (201, {0.05}))
+
+    def test_a_right_that_is_revoked_at_the_service_when_all_was_quiet(self):
         recorder = self.begin(0, 0, share="1")
-        time.sleep(0.6)
         direct = Client(self.service_port)
         self.write(direct, key(USERS[0], "owner", EARLY[0]))
         self.write(direct, key(USERS[0], "owner", EARLY[0]), kind="deletes")
         direct.close()
-        time.sleep(0.3)
+        self.wait_for(lambda: any("remove" in row for row in self.of_kind("write")))
         self.assertTrue(self.check(self.client, USERS[0], "owner", EARLY[0])[1]["allowed"])
         self.end(recorder)
         self.import_log()
         self.assertEqual(list(self.found().values()), [{"F10 wrong reply"}])
 
     def connected(self):
-        made = socket.create_connection(("127.0.0.1", self.port), timeout=20)
+        made = socket.create_connection(("127.0.0.1", self.port), timeout=READY)
         self.addCleanup(made.close)
         return made
+
+    def answer(self, one):
+        """What comes on a connection up to the end of a JSON object."""
+        found = b""
+        while not found.endswith(b"}"):
+            found += one.recv(10_000) or self.fail(found)
+        return found
 
     def request(self, path="/stores/%s/check" % STORE, user=USERS[0], thing=EARLY[0], headers=b""):
         body = b'{"tuple_key":{"user":"%s","relation":"owner","object":"%s"},"consistency":"%s"}' % (user.encode(), thing.encode(), NEWEST.encode())
@@ -93,7 +119,7 @@ class Raced(OpenFga):
         time.sleep(0.2)
         self.write(self.client, key(USERS[0], "owner", EARLY[0]), kind="deletes")
         one.sendall(body)
-        self.assertIn(b'"allowed": true', one.recv(10_000))
+        self.assertIn(b'"allowed": true', self.answer(one))
         self.end(recorder)
         self.import_log()
         self.assertEqual(list(self.found().values()), [{"F10 wrong reply"}])
@@ -103,7 +129,7 @@ class Raced(OpenFga):
         for path in ("/stores/%s/%%63heck" % STORE, "/stores/%%30%s/check" % STORE[1:], "/stores/%s/check#x" % STORE):
             one = self.connected()
             one.sendall(b"".join(self.request(path)))
-            self.assertIn(b'"allowed"', one.recv(10_000))
+            self.assertIn(b'"allowed"', self.answer(one))
             one.close()
         self.end(recorder)
         self.assertEqual(len(self.of_kind("check")), 3)
@@ -115,11 +141,10 @@ class Raced(OpenFga):
         smuggled = b"GET /stores HTTP/1.1\r\nHost: x\r\nX: y\nContent-Length: %d\r\n\r\n" % len(head + body)
         one = self.connected()
         one.sendall(smuggled + head + body + b"".join(self.request(user="user:other")))
-        time.sleep(0.5)
+        self.wait_for(lambda: "a connection can't be read along: a line with a stray end in it" in {row["reason"] for row in self.of_kind("gap")})
         one.close()
         self.end(recorder)
         self.assertEqual(self.of_kind("check"), [])
-        self.assertIn("a connection can't be read along: a line with a stray end in it", {row["reason"] for row in self.of_kind("gap")})
 
     def test_a_tuple_with_a_blank_of_unicode_in_its_id(self):
         recorder = self.begin(0, 0)

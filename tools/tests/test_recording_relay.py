@@ -6,6 +6,7 @@ import os
 import socket
 import threading
 from random import Random
+from unittest import mock
 from urllib.parse import urlsplit
 
 from new_enemy_tools.importing.reading import Bad
@@ -63,7 +64,7 @@ class Unchanged(Case):
         writer.write(b"".join(requests))
         if is_half_closed:
             writer.write_eof()
-        answered = await asyncio.wait_for(read_all(reader), 30)
+        answered = await asyncio.wait_for(read_all(reader), 120)
         writer.close()
         await done.wait()
         await relay.close()
@@ -142,6 +143,20 @@ class Unchanged(Case):
     def test_an_answer_that_breaks_off(self):
         told = self.assert_passes(HEAD + b"Content-Length: 2\r\n\r\n{}", b"HTTP/1.1 200 OK\r\nContent-Length: 99\r\n\r\nno more")
         self.assertEqual((told[-1].number, told[-1].status, told[-1].response), (told[0].number, 200, None))
+
+
+class Ends(Case):
+    def test_a_connection_that_comes_while_the_recorder_ends(self):
+        """It is closed: the system had taken it, and what it asks would be answered when the keeper has been told that nothing more comes."""
+        teller = Teller(None)
+        relay = Relay(urlsplit("http://127.0.0.1:1"), teller, call_of)
+        relay.server = mock.Mock()
+        client, transport = relay.client(), mock.Mock()
+        relay.stop()
+        client.connection_made(transport)
+        transport.abort.assert_called_once()
+        self.assertEqual((relay.open, relay.tasks), (set(), set()))
+        client.connection_lost(None)
 
 
 async def read_all(reader):

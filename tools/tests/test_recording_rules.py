@@ -5,6 +5,7 @@ import os
 from new_enemy_tools.importing import causes
 from tests.recorded import Client
 from tests.stand_in_spicedb import OPEN, SCHEMA
+from tests.support import TOOLS
 from tests.test_recording_openfga import MODEL, OpenFga, key
 from tests.test_recording_spicedb import FULL, SpiceDb
 
@@ -66,6 +67,8 @@ class Schemas(SpiceDb):
         self.check(client, "u1", "view", "d0", FULL)
         client.ask("/v1/schema/write", {"schema": OPEN})
         self.check(client, "u1", "view", "d0", FULL)
+        # What a schema was is not known where it has changed again before it is read.
+        self.wait_for(lambda: len(self.of_kind("rules")) == 2)
         client.ask("/v1/schema/write", {"schema": SCHEMA})
         self.check(client, "u1", "view", "d0", FULL)
         client.close()
@@ -107,6 +110,7 @@ class Said(OpenFga):
         self.assertEqual(self.found(), {}, self.said_of_audit)
 
     def test_a_folder_that_is_not_of_this_log(self):
+        self.RECORD = os.path.join(TOOLS, "record")
         self.start_service(MODEL)
         for text, said in ((b"x" * 2000, "log/000007.jsonl is no file of a log; give another folder"),
                            (b'{"event":"log","number":7,"service":"spicedb"}\n', "it has a log of spicedb; give another folder")):

@@ -78,7 +78,8 @@ class Loaded(SpiceDb):
         client = Client(self.service_port)
         self.prepare(client)
         client.close()
-        recorder = self.start_recorder()
+        # The changes stand still for as long as some requests take.
+        recorder = self.start_recorder("--hold", "600")
         self.run_clients(CLIENTS, REQUESTS, self.work)
         self.wait_for_changes()
         self.end(recorder)

@@ -5,8 +5,12 @@ import sys
 from random import Random
 from unittest import mock
 
+from new_enemy_tools.recording.core import Core
 from new_enemy_tools.recording.openfga import OpenFga
 from new_enemy_tools.recording.places import Places
+from new_enemy_tools.recording.spicedb import Feed, SpiceDb
+from tests.simulated_spicedb import run as run_spicedb
+from tests.simulated_spicedb import run_either
 from tests.simulation import STEP, Shape, run
 from tests.support import TOOLS, Case
 
@@ -46,8 +50,10 @@ class Holds(Case):
         self.assertGreater(recorded, 30 * lost)
 
     def test_the_command(self):
-        run = subprocess.run([sys.executable, os.path.join(TOOLS, "dev", "simulate"), "--seeds", "20"], capture_output=True, text=True, timeout=60)
-        self.assertEqual((run.returncode, run.stdout.splitlines()[-1]), (0, "20 passed, 0 failed"), run.stderr)
+        for words in ([], ["--joined"], ["--spicedb"]):
+            run = subprocess.run([sys.executable, os.path.join(TOOLS, "dev", "simulate"), "--seeds", "20", *words], capture_output=True, text=True,
+                                 timeout=300)
+            self.assertEqual((run.returncode, run.stdout.splitlines()[-1]), (0, "20 passed, 0 failed"), run.stderr)
 
 
 class Finds(Case):
@@ -107,6 +113,68 @@ class Finds(Case):
     def test_a_cache_that_is_not_told(self):
         with mock.patch.object(OpenFga, "_stale", lambda self, clock: clock):
             self.assertIn("a right reply is called wrong", self.found(stale=10 * STEP, faults=0))
+
+
+class OfSpiceDb(Case):
+    """The same for SpiceDB, whose replies name their snapshots: the log has the findings of the truth, no more and no fewer."""
+
+    def assert_found(self, *wanted, seeds=300, **values):
+        """That some seeds show each of some faults."""
+        left = set(wanted)
+        for seed in range(seeds):
+            left -= {fault.split(" (check")[0] for fault in run_spicedb(seed, shape_of(seed, **values))[1].faults()}
+            if not left:
+                return
+        self.fail(left)
+
+    def test_findings_are_those_of_the_truth(self):
+        recorded = lost = 0
+        for seed in range(SEEDS):
+            _, verdict = run_either(seed)
+            self.assertEqual(verdict.faults(), [], "seed %d" % seed)
+            recorded, lost = recorded + len(verdict.entries), lost + verdict.lost
+        self.assertGreater(recorded, 5 * lost)
+
+    def test_what_was_known_before_a_check_that_is_forgotten(self):
+        kept = SpiceDb._place
+        with mock.patch.object(SpiceDb, "_place", lambda *words: kept(*words[:4], 0, *words[5:])):
+            self.assert_found("a check passes without a stale answer", "a check passes without content that is not of the latest state", faults=0.6)
+
+    def test_what_was_known_when_the_core_heard_of_the_beginning(self):
+        """What Watch gave before may be told a little later."""
+        kept = SpiceDb.decided
+
+        def decided(self, message, request, response, asked, core):
+            with mock.patch.object(self.history, "at", lambda clock: asked.known):
+                kept(self, message, request, response, asked, core)
+        with mock.patch.object(SpiceDb, "decided", decided):
+            self.assert_found("a check passes without a stale answer", seeds=1000, faults=0.6)
+
+    def test_commits_that_do_not_wait_for_content_checks(self):
+        kept = Core._begin
+
+        def begin(self, message):
+            kept(self, message)
+            self.sequencer.saves.clear()
+        with mock.patch.object(Core, "_begin", begin):
+            self.assert_found("a right check is accused of content that is not of the latest state", faults=0)
+
+    def test_checks_that_do_not_wait_for_the_changes(self):
+        kept = Core.put_entries
+        with mock.patch.object(Core, "put_entries", lambda self, message, answers, place, **values: kept(self, message, answers, 0, **values)):
+            self.assert_found("a check stands before a commit that it saw")
+
+    def test_changes_that_come_twice(self):
+        with mock.patch.object(Feed, "_is_old", lambda *words: False):
+            self.assert_found("the commits come twice, or have another order than the service's")
+
+    def test_a_schema_that_is_read_when_it_has_changed_again(self):
+        with mock.patch.object(Feed, "_sure", lambda self, watched, read_at: [watched]):
+            self.assert_found("a right check is accused of a wrong reply", models=True, faults=0)
+
+    def test_checks_that_waited_when_the_rules_became_unsure(self):
+        with mock.patch.object(Core, "lose_entries", lambda *words: None):
+            self.assert_found("the log has another state at a snapshot than the service", models=True, faults=0)
 
 
 def _at_once(self, message, began_before, core):

@@ -27,7 +27,7 @@ class Totals(unittest.TestCase):
         self.assertGreater(len(counted), 6)
         for what, said, command in counted:
             with self.subTest(what=what):
-                now = int(subprocess.run(["bash", "-c", command.strip("`")], cwd=TOP, capture_output=True, text=True, timeout=60).stdout)
+                now = int(subprocess.run(["bash", "-c", command.strip("`")], cwd=TOP, capture_output=True, text=True, timeout=300).stdout)
                 self.assertGreater(now, 0.75 * number(said))
                 self.assertLess(now, 1.25 * number(said))
 

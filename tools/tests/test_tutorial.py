@@ -58,7 +58,7 @@ class Tutorial(Walked):
         """The line for cron, with no more than cron gives: it finds the folder, the tools and the days, and no new file."""
         command, python = cron_line().split(" ", 5)[5], os.path.dirname(sys.executable)
         run = subprocess.run(["/bin/sh", "-c", command], env={"HOME": self.room, "PATH": python + ":/usr/bin:/bin"}, capture_output=True, text=True,
-                             timeout=60)
+                             timeout=300)
         self.assertEqual((run.returncode, run.stdout, run.stderr), (8, "", "day: no file of the log is new and complete\n"))
 
     def test_the_line_for_cron_is_the_command_of_the_page(self) -> None:

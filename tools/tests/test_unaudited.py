@@ -310,7 +310,7 @@ class Told(Unaudited):
 
     def test_a_fault_of_the_tool_itself_is_no_finding(self):
         code = "import sys; sys.path.insert(0, %r)\nfrom new_enemy_tools.commands.running import run\nrun(lambda: 1 // 0)" % TOOLS
-        run = subprocess.run([sys.executable, "-c", code], capture_output=True, text=True, timeout=60)
+        run = subprocess.run([sys.executable, "-c", code], capture_output=True, text=True, timeout=300)
         self.assertEqual((run.returncode, run.stderr.splitlines()[-1]), (7, "ZeroDivisionError: integer division or modulo by zero"))
 
     def test_a_page_a_day_and_one_over_all_days(self):

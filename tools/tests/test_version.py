@@ -17,7 +17,7 @@ def logic() -> str:
 class Versions(Case):
     def test_the_program_says_the_version_of_the_tools_and_the_logic_of_the_kit_that_built_it(self) -> None:
         """The logic in the line of the kit of the file PROVED beside the program, or of dist/PROVED."""
-        said = subprocess.run([os.environ["NEW_ENEMY"], "--version"], capture_output=True, text=True, timeout=60).stdout
+        said = subprocess.run([os.environ["NEW_ENEMY"], "--version"], capture_output=True, text=True, timeout=300).stdout
         self.assertEqual(said, "new_enemy %s (logic %s)\n" % (VERSION, logic()))
 
     def test_the_tools_say_it(self) -> None:

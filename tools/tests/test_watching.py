@@ -10,7 +10,7 @@ import time
 from typing import Optional
 from unittest import mock
 
-from new_enemy_tools.watching import WAITING, Terminal
+from new_enemy_tools.watching import CALL_READ, WAITING, Terminal
 from tests.support import EXAMPLES, NE, Case
 from tests.test_provenance import Checkout
 
@@ -40,7 +40,7 @@ class Screen:
     def wait_for(self, pattern: Optional[str]) -> None:
         """Until something was written, or all was."""
         while pattern is None or not re.search(pattern, self.written):
-            assert select.select([self.parent], [], [], 60)[0], (pattern, self.written[-999:])
+            assert select.select([self.parent], [], [], 300)[0], (pattern, self.written[-999:])
             try:
                 data = os.read(self.parent, 1 << 16)
             except OSError:
@@ -86,7 +86,7 @@ class OnScreen(Case):
         """A process with standard error, and if nothing else is said output, on the screen."""
         run = subprocess.Popen(words, cwd=folder, stderr=self.screen.child, **{"stdin": subprocess.DEVNULL, "stdout": self.screen.child, **how})
         os.close(self.screen.child)
-        self.addCleanup(run.wait, 60)
+        self.addCleanup(run.wait, 300)
         return run
 
     def watch(self, text: str, **how: object) -> "subprocess.Popen[bytes]":
@@ -115,7 +115,7 @@ class Lines(OnScreen):
         before = len(self.screen.written)
         self.go(self.path("second"))
         self.screen.wait_for(None)
-        self.assertEqual(run.wait(60), 1)
+        self.assertEqual(run.wait(300), 1)
         # Nothing was shown on the line that was not whole.
         self.assertRegex(self.screen.written[self.screen.written.index("entries "):before + 3], "^entries 1")
         self.assertEqual(self.screen.lines(), ["early", "entries 1", ""])
@@ -127,7 +127,7 @@ class Lines(OnScreen):
         self.go(self.path("fifo"))
         self.go(self.path("second"))
         self.screen.wait_for(None)
-        self.assertEqual((run.wait(60), self.get("out"), self.screen.lines()), (1, "entries 1\n", ["early", ""]))
+        self.assertEqual((run.wait(300), self.get("out"), self.screen.lines()), (1, "entries 1\n", ["early", ""]))
 
     def test_input_by_a_pipe(self) -> None:
         run = self.watch("read -r go <fifo\ncat second >reading\n")
@@ -135,7 +135,7 @@ class Lines(OnScreen):
         self.go(self.path("fifo"))
         self.go(self.path("second"))
         self.screen.wait_for(None)
-        self.assertEqual((run.wait(60), self.screen.lines()), (0, [""]))
+        self.assertEqual((run.wait(300), self.screen.lines()), (0, [""]))
 
 
 class Typed(OnScreen):
@@ -144,6 +144,24 @@ class Typed(OnScreen):
     def type(self, text: str) -> None:
         os.write(self.screen.parent, text.encode())
 
+    def until_it_waits(self, run: "subprocess.Popen[bytes]") -> None:
+        """Until the program waits for what is typed, and the tool has looked at it since, some times."""
+        while self.said_by(run.pid, "task/%d/children" % run.pid) == [] or self.said_by(
+                int(self.said_by(run.pid, "task/%d/children" % run.pid)[0]), "syscall")[:2] != [CALL_READ, "0x0"]:
+            time.sleep(0.01)
+        looked = self.looks(run.pid) + 5
+        while self.looks(run.pid) < looked:
+            time.sleep(0.01)
+
+    def looks(self, process: int) -> int:
+        """How often a process has waited for something."""
+        words = self.said_by(process, "status")
+        return int(words[words.index("voluntary_ctxt_switches:") + 1])
+
+    def said_by(self, process: int, name: str) -> list[str]:
+        with open("/proc/%d/%s" % (process, name), encoding="ascii") as file:
+            return file.read().split()
+
     def test_nothing_was_typed_yet(self) -> None:
         """It is said once, below it one may type, and nothing is drawn over that while the program waits."""
         run = self.watch("read -r line\necho \"got $line\"\nread -r line\nread -r go <fifo\necho \"and $line\"", stdin=self.screen.child)
@@ -151,22 +169,22 @@ class Typed(OnScreen):
         self.screen.wait_for(r"--help tells more\)\r\n")
         self.type("one\n")
         self.screen.wait_for("got one\r\n")
-        time.sleep(0.2)
+        self.until_it_waits(run)
         self.type("two\n")
         self.screen.wait_for(r"\r(working|reading), [0-9,]+ bytes read, \d+ s\x1b\[K")
         self.go(self.path("fifo"))
         self.screen.wait_for(None)
-        self.assertEqual((run.wait(60), self.screen.lines()), (0, [WAITING, "one", "got one", "two", "and two", ""]))
+        self.assertEqual((run.wait(300), self.screen.lines()), (0, [WAITING, "one", "got one", "two", "and two", ""]))
         self.assertRegex(self.screen.written[:self.screen.written.index("two")], r"(got one\r\n|\r\x1b\[K)$")
 
     def test_a_line_that_was_typed_before(self) -> None:
         self.type("one\n")
         run = self.watch("read -r line\necho \"got $line\"\nread -r line\n", stdin=self.screen.child)
         self.screen.wait_for("got one\r\n")
-        time.sleep(0.2)
+        self.until_it_waits(run)
         self.type("two\n")
         self.screen.wait_for(None)
-        self.assertEqual((run.wait(60), self.screen.lines()), (0, ["one", "got one", "two", ""]))
+        self.assertEqual((run.wait(300), self.screen.lines()), (0, ["one", "got one", "two", ""]))
 
     def test_the_auditor(self) -> None:
         run = self.start([sys.executable, "-c", AT_ONCE, os.environ["NEW_ENEMY"]], self.room, stdin=self.screen.child)
@@ -174,7 +192,7 @@ class Typed(OnScreen):
         with open(os.path.join(EXAMPLES, "one_proved_check"), encoding="utf-8") as file:
             self.type(file.read() + "\x04")
         self.screen.wait_for(None)
-        self.assertEqual((run.wait(60), self.screen.lines()[-4:]), (0, ["entries 1", "findings 0", "verdict clean", ""]))
+        self.assertEqual((run.wait(300), self.screen.lines()[-4:]), (0, ["entries 1", "findings 0", "verdict clean", ""]))
 
 
 class Shown(OnScreen):
@@ -199,14 +217,14 @@ class Shown(OnScreen):
 class Signals(OnScreen):
     def test_one_that_ends_the_program(self) -> None:
         run = self.start([sys.executable, NE, "watch", self.stand_in("#!/bin/sh\nkill -TERM $$\n")], self.room)
-        self.assertEqual(run.wait(60), -signal.SIGTERM)
+        self.assertEqual(run.wait(300), -signal.SIGTERM)
 
     def test_one_to_the_tool_is_passed_on(self) -> None:
         run = self.start([sys.executable, NE, "watch", self.stand_in(LOOPS)], self.room)
         self.screen.wait_for("ready")
         run.send_signal(signal.SIGTERM)
         self.screen.wait_for(None)
-        self.assertEqual((run.wait(60), self.screen.lines()), (7, ["ready", "told", ""]))
+        self.assertEqual((run.wait(300), self.screen.lines()), (7, ["ready", "told", ""]))
 
     def test_one_of_the_terminal_ends_both(self) -> None:
         # A shell starts what runs in the background with this signal ignored.
@@ -214,13 +232,13 @@ class Signals(OnScreen):
                          preexec_fn=lambda: signal.signal(signal.SIGINT, signal.SIG_DFL))
         self.screen.wait_for("ready")
         os.killpg(run.pid, signal.SIGINT)
-        self.assertEqual(run.wait(60), -signal.SIGINT)
+        self.assertEqual(run.wait(300), -signal.SIGINT)
 
 
 class NoTerminal(Case):
     def test_the_program_takes_the_place_of_the_tool(self) -> None:
         with subprocess.Popen([sys.executable, NE, "watch", "sh", "-c", "echo $$; exit 4"], stdout=subprocess.PIPE, stderr=subprocess.PIPE) as run:
-            out, err = run.communicate(timeout=60)
+            out, err = run.communicate(timeout=300)
         self.assertEqual((run.returncode, out.decode(), err), (4, "%d\n" % run.pid, b""))
 
     def test_no_program(self) -> None:
@@ -251,18 +269,18 @@ class Wrapper(Checkout, OnScreen):
         self.screen.wait_for(r"bytes read, \d+ s")
         self.go(os.path.join(self.room, "fifo"))
         self.screen.wait_for(None)
-        self.assertEqual((run.wait(60), self.screen.lines()), (1, ["audit a b --make", ""]))
+        self.assertEqual((run.wait(300), self.screen.lines()), (1, ["audit a b --make", ""]))
 
     def test_quiet(self) -> None:
         """The program takes the place of the wrapper, as it does where there is no terminal."""
         self.stands_in('#!/bin/sh\necho $$ "$@"\n')
         run = self.called("--quiet", "audit", "--make")
         self.screen.wait_for(None)
-        self.assertEqual((run.wait(60), self.screen.lines()), (0, ["%d audit --make" % run.pid, ""]))
+        self.assertEqual((run.wait(300), self.screen.lines()), (0, ["%d audit --make" % run.pid, ""]))
 
     def test_no_terminal(self) -> None:
         self.stands_in('#!/bin/sh\necho $$ "$@"\nkill -TERM $$\n')
         with subprocess.Popen([self.path("new_enemy"), "audit"], cwd=self.room, stdout=subprocess.PIPE, stderr=subprocess.PIPE) as run:
-            out, err = run.communicate(timeout=60)
+            out, err = run.communicate(timeout=300)
         self.assertEqual((run.returncode, out.decode(), err), (-signal.SIGTERM, "%d audit\n" % run.pid, b""))
         self.screen.close = lambda: (os.close(self.screen.parent), os.close(self.screen.child))  # type: ignore[method-assign]

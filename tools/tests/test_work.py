@@ -22,7 +22,7 @@ class Counted(Case):
             file.write(valgrind)
         os.chmod(self.path("bin/valgrind"), 0o755)
         path = os.pathsep.join([self.path("bin"), os.environ["PATH"]])
-        return subprocess.run([sys.executable, *words], cwd=TOP, env={**os.environ, "PATH": path}, capture_output=True, text=True, timeout=60)
+        return subprocess.run([sys.executable, *words], cwd=TOP, env={**os.environ, "PATH": path}, capture_output=True, text=True, timeout=300)
 
     def work(self, counts: str, kind: str = "toggled") -> "tuple[int, list[str]]":
         run = self.run_with(COUNTS % counts, os.path.join("tools", "dev", "work"), "program", kind)
@@ -83,10 +83,10 @@ class Counted(Case):
                 trace, evidence = made.stdout.split(b"---\n")
                 self.assertEqual(evidence.strip(), b"")
                 self.put("trace", trace.decode())
-                run = subprocess.run([os.environ["NEW_ENEMY"], "audit", self.path("trace"), "--make"], capture_output=True, text=True, timeout=60)
+                run = subprocess.run([os.environ["NEW_ENEMY"], "audit", self.path("trace"), "--make"], capture_output=True, text=True, timeout=300)
                 self.assertEqual((run.returncode, run.stdout.splitlines()[-1], run.stderr), (0, "verdict clean", ""))
 
     @unittest.skipUnless(shutil.which("valgrind"), "valgrind is not installed")
     def test_the_program(self) -> None:
-        run = subprocess.run([os.path.join(TOP, "tools", "dev", "work"), os.environ["NEW_ENEMY"], "alike"], capture_output=True, text=True, timeout=60)
+        run = subprocess.run([os.path.join(TOP, "tools", "dev", "work"), os.environ["NEW_ENEMY"], "alike"], capture_output=True, text=True, timeout=300)
         self.assertEqual((run.returncode, run.stdout.splitlines()[-1], run.stderr), (0, "1 passed, 0 failed", ""))

@@ -143,7 +143,7 @@ class Files(Case):
 class Runs(Case):
     def test_a_program_that_answers_otherwise(self):
         names = ["empty_trace_is_clean", "joined_empty_input"]
-        run = subprocess.run([sys.executable, os.path.join(TOP, "rows", "run"), "/bin/true", *names], capture_output=True, text=True, timeout=60)
+        run = subprocess.run([sys.executable, os.path.join(TOP, "rows", "run"), "/bin/true", *names], capture_output=True, text=True, timeout=300)
         self.assertEqual((run.returncode, run.stderr), (1, ""))
         self.assertEqual(run.stdout.splitlines(), [
             "empty_trace_is_clean: stdout is b'' and not b'entries 0\\nfindings 0\\nverdict clean\\n'",

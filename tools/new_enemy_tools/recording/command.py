@@ -30,8 +30,9 @@ from new_enemy_tools.recording.secured import Certificate, FileFault, context_of
 
 ENTRY = os.path.join(os.path.dirname(os.path.dirname(os.path.dirname(os.path.abspath(__file__)))), "record")
 TICK = 0.05
-# So long open requests have at the end.
+# So long open requests have at the end; and so long the keeper has to end the log, which takes it much less on a machine that is not overloaded.
 LAST = 3.0
+CLOSING = 60.0
 # A keeper that ends is started again after so long.
 AGAIN = 2.0
 # The proxy itself has a few files open; and more than so many are not asked for.
@@ -245,7 +246,7 @@ class Proxy:
     async def end(self) -> int:
         """Tells the keeper all that is to be told and that it is over, and waits for it to close the log."""
         self.is_over = True
-        until = time.monotonic() + 4 * LAST
+        until = time.monotonic() + CLOSING
         while self.teller.end is not None and not self.teller.has_told() and time.monotonic() < until:
             await asyncio.sleep(TICK)
             self.teller.catch_up()

@@ -17,7 +17,7 @@ from new_enemy_tools.importing.times import nanoseconds
 from new_enemy_tools.recording.lines import gap_line, line, time_text, unmapped_line
 from new_enemy_tools.recording.log_files import Left, Place
 from new_enemy_tools.recording.messages import CHECKS, Beat, Bye, Ended, Lost, Started
-from new_enemy_tools.recording.sequencer import Commit, Sequencer
+from new_enemy_tools.recording.sequencer import Commit, Ready, Sequencer
 
 FOREVER = 1 << 63
 # Gaps behind the first one are told together, so often.
@@ -252,6 +252,12 @@ class Core:
         self._add_gap(reason, since or self.now.wall, self.now.wall, count)
         self._say_gaps(False)
 
+    def lose_entries(self, which: Callable[[Ready], bool], reason: str) -> None:
+        """Some of the entries that wait for their place get none."""
+        for one in self.sequencer.take_out(which):
+            self.forget(one.call)
+            self.lose(reason, one.since, one.data.count(b"\n"))
+
     def _add_gap(self, reason: str, start: int, end: int, count: int) -> None:
         self.gaps.add(reason, start, end, count)
         self.lost[reason] += count
@@ -301,9 +307,7 @@ class Core:
                 self._let_go(number)
                 self.unheld.add(number)
         behind = "the changes were more than %g seconds behind" % self.hold
-        for one in self.sequencer.late(before):
-            self.forget(one.call)
-            self.lose(behind, one.since, one.data.count(b"\n"))
+        self.lose_entries(lambda one: one.since < before, behind)
         for message in self.service.late(before):
             self.forget(message.number)
             self.lose(behind, message.begun)

@@ -106,11 +106,12 @@ class Keeper:
                     self._take(self.queue.get())
             except queue.Empty:
                 pass
+            # What can be written is no longer waiting, however late it came here.
+            self._write()
             if time.monotonic() - ticked > TICK:
                 ticked = time.monotonic()
                 self.core.tick(_now())
                 self.sender.tell(self._status())
-            self._write()
 
     def _status(self) -> Status:
         core = self.core
@@ -216,6 +217,7 @@ class Keeper:
     def _end_log(self) -> None:
         """Waits a little for what entries need, says what is lost, and closes the log."""
         self.core.end_asked(_now())
+        self.gone_at = time.monotonic()
         while self.core.is_waiting() and not self._is_last():
             try:
                 self._take(self.queue.get(timeout=TICK))

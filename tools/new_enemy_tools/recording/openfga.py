@@ -272,7 +272,7 @@ class OpenFga:
             made = found.popleft() if found else None
             makers.append(made)
             if made is not None and self.began - self.horizon > made.answered:
-                self._learn(message.began - made.asked)
+                self._learn(message.received - made.asked)
         return _spread(changes, makers)
 
     def _learn(self, late: int) -> None:

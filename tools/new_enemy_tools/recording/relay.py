@@ -91,6 +91,7 @@ class Relay:
         self.teller, self.call_of = teller, call_of
         self.context = context_of(ca) if self.secure else None
         self.server: Any = None
+        self.is_over = False
         self.tasks: set[asyncio.Task[Any]] = set()
         self.open: set[Client] = set()
 
@@ -109,7 +110,8 @@ class Relay:
         self.server = await asyncio.get_running_loop().create_server(self.client, host, port, backlog=1024, ssl=shown, reuse_port=is_shared)
 
     def stop(self) -> None:
-        """Takes no more connections."""
+        """Takes no more connections, nor those that have come and were not begun: their answers would be told to nobody."""
+        self.is_over = True
         self.server.close()
 
     async def close(self) -> None:
@@ -173,6 +175,9 @@ class Client(Side):
 
     def connection_made(self, transport: Any) -> None:
         super().connection_made(transport)
+        if self.relay.is_over:
+            transport.abort()
+            return
         if len(self.relay.open) >= self.relay.most:
             self.relay.refuse(transport)
             return

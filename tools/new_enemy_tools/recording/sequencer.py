@@ -6,7 +6,7 @@ proxy and the service tell comes on two ways, so times tell what was first: thos
 import heapq
 from bisect import bisect_right
 from collections import deque
-from typing import NamedTuple, Optional, Union
+from typing import Callable, NamedTuple, Optional, Union
 
 # Of so many revisions it is remembered when they were known.
 MOMENTS = 100_000
@@ -91,11 +91,10 @@ class Sequencer:
                 return found
             found.append(self.commits.popleft())
 
-    def late(self, before: int) -> list[Ready]:
-        """Takes out the entries that have waited since before a time."""
-        if not any(one.since < before for one in self.ready):
-            return []
-        found = [one for one in self.ready if one.since < before]
-        self.ready = [one for one in self.ready if one.since >= before]
-        heapq.heapify(self.ready)
+    def take_out(self, which: Callable[[Ready], bool]) -> list[Ready]:
+        """Takes out some of the entries that wait."""
+        found = [one for one in self.ready if which(one)]
+        if found:
+            self.ready = [one for one in self.ready if not which(one)]
+            heapq.heapify(self.ready)
         return found

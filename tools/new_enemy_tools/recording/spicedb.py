@@ -4,7 +4,6 @@ A revision is the one in the service's tokens, or on PostgreSQL the number of a 
 """
 import json
 import time
-from bisect import bisect_right, insort
 from collections import deque
 from functools import partial
 from typing import Any, Callable, Iterable, Iterator, NamedTuple, Optional, Protocol
@@ -30,10 +29,11 @@ from new_enemy_tools.recording.transactions import Transactions
 CALLS = {"/v1/permissions/check": "check", "/v1/permissions/checkbulk": "batch",
          "/v1/experimental/permissions/bulkcheckpermission": "batch", "/v1/permissions/resources": "stream",
          "/v1/permissions/subjects": "stream", "/v1/relationships/write": "write", "/v1/relationships/delete": "write"}
-# Of so many commits the revisions are remembered.
-COMMITS = 100_000
 # A stream that ended is opened again after so long.
 AGAIN = 0.05
+# Behind all revisions.
+FAR = 1 << 200
+UNSURE = "the rules at a snapshot are not known"
 # Of so many transactions it is remembered that they came.
 RECENT = 10_000
 
@@ -76,7 +76,7 @@ class Watched(NamedTuple):
 
 
 class Unsure(NamedTuple):
-    """From one revision to before another the rules are not known."""
+    """From one revision to before another the rules are not known. On PostgreSQL they are from the commits so far on."""
 
     start: int
     end: int
@@ -102,6 +102,21 @@ def revision_of(token: object) -> Revision:
     if revision is None:
         raise Bad("a token without a revision")
     return revision
+
+
+def _sees(read: Revision, revision: Revision) -> bool:
+    """Whether what was read at one revision has what came at another."""
+    if read.snapshot is None or revision.snapshot is None:
+        return (revision.number or 0) <= (read.number or 0)
+    return revision.snapshot.own is not None and read.snapshot.sees(revision.snapshot.own)
+
+
+def _is_past(revision: Revision, read: Revision) -> bool:
+    """Whether all that was read at one revision has come with a response of Watch at another."""
+    if read.snapshot is None or revision.snapshot is None:
+        return (revision.number or 0) >= (read.number or 0)
+    own = revision.snapshot.own
+    return own >= read.snapshot.xmax if own is not None else revision.snapshot.contains(read.snapshot)
 
 
 def read_rules(text: str) -> tuple[Optional[ServiceRules], Refusals]:
@@ -133,9 +148,9 @@ class Feed:
         self.number = 0
         self.recent: deque[Optional[int]] = deque((), RECENT)
         self.known = 0
-        # responses behind rules that were read later than they changed, and until when they wait
+        # responses behind rules that were read later than they changed, and when these were read
         self.held: list[Watched] = []
-        self.until = 0
+        self.read_at: Optional[Revision] = None
 
     def run(self, left: Optional[Left], put: Callable[[Any], None]) -> None:
         try:
@@ -169,7 +184,7 @@ class Feed:
         self.token, self.number = token, revision.number or 0
         return Base(None, revision, token, listed, rules, refusals)
 
-    def _watched(self) -> Iterator[tuple[Watched, int]]:
+    def _watched(self) -> Iterator[tuple[Watched, Revision]]:
         """The responses, each with the revision at which its rules were read."""
         assert self.token is not None
         for response in self.source.watch(self.token):
@@ -182,10 +197,10 @@ class Feed:
             for update in get(response, "updates") or ():
                 given = get(update, "relationship")
                 updates.append(Update(relationship_of(given), OPERATIONS[get(update, "operation")], _traits(given)))
-            rules, read_at = None, revision.number or 0
+            rules, read_at = None, revision
             if get(response, "schemaUpdated"):
                 text, schema_token = self.source.schema()
-                rules, read_at = read_rules(text), max(read_at, revision_of(schema_token).number or 0)
+                rules, read_at = read_rules(text), revision_of(schema_token)
             is_known = self.known > 0 and bool(updates or rules)
             self.known -= is_known
             self.token, self.number = token, revision.number or 0
@@ -201,19 +216,18 @@ class Feed:
             raise Bad("the snapshot of a change does not name the transaction that wrote")
         return has_change and revision.snapshot.own in self.recent
 
-    def _sure(self, watched: Watched, read_at: int) -> list[Any]:
+    def _sure(self, watched: Watched, read_at: Revision) -> list[Any]:
         """What can be told: rules that were read later than they changed wait until it is known that they did not change again."""
         found: list[Any] = []
-        number = watched.revision.number or 0
-        if self.held and watched.rules is not None and number <= self.until:
-            found = [Unsure(self.held[0].revision.number or 0, number), *(one._replace(rules=None) for one in self.held)]
+        if self.held and watched.rules is not None and self.read_at is not None and _sees(self.read_at, watched.revision):
+            found = [Unsure(self.held[0].revision.number or 0, watched.revision.number or FAR), *(one._replace(rules=None) for one in self.held)]
             self.held = []
         if watched.rules is not None:
-            self.until = read_at
+            self.read_at = read_at
         self.held.append(watched)
-        if number >= self.until:
+        if self.read_at is None or _is_past(watched.revision, self.read_at):
             found += self.held
-            self.held = []
+            self.held, self.read_at = [], None
         return found
 
 
@@ -240,7 +254,6 @@ class SpiceDb:
     def __init__(self) -> None:
         self.history, self.base = Known(), 0
         self.takes = Takes()
-        self.commits: list[int] = []
         self.unsure: list[Unsure] = []
         self.placed_at = 0
         # on PostgreSQL
@@ -254,8 +267,12 @@ class SpiceDb:
         if isinstance(message, Base):
             self._take_base(message, core)
         elif isinstance(message, Unsure):
+            if self.transactions is not None:
+                message = message._replace(start=self.transactions.count)
             self.unsure.append(message)
             core.lose("the schema changed twice before its text was read", 0, 0)
+            # What waits was put there when these rules were not known to be unsure.
+            core.lose_entries(lambda one: one.place >= message.start, UNSURE)
         elif isinstance(message, Watched):
             self._take_watched(message, core)
 
@@ -313,11 +330,9 @@ class SpiceDb:
                 core.put_commit(Commit(revision, found.data, message.received, message.token, found.hash))
             except Unread as fault:
                 core.say(str(fault))
-                self.unsure.append(Unsure(revision, 1 << 200))
+                self.unsure.append(Unsure(revision, FAR))
                 core.lose("a schema that can't be read", 0, 0)
         elif message.updates:
-            insort(self.commits, revision)
-            del self.commits[:max(0, len(self.commits) - COMMITS)]
             core.put_commit(self._commit(message, revision, core.now.wall - (core.now.clock - message.received)))
         else:
             self._checkpoint(message, revision, core)
@@ -365,7 +380,6 @@ class SpiceDb:
         if message.call == "write":
             revision = revision_of(get(get(response, "writtenAt") or get(response, "deletedAt"), "token"))
             if revision.number is not None:
-                insort(self.commits, revision.number)
                 self.history.add(message.clock, revision.number)
             elif revision.snapshot is not None:
                 self._learn(Answered(message.at, message.clock, revision.snapshot))
@@ -390,7 +404,8 @@ class SpiceDb:
             self._wait(Waiting(message, request, answers, asked.clock, revision.snapshot, demanded), core)
             return
         self.history.add(message.clock, revision.number or 0)
-        self._place(message, request, answers, asked.known, revision.number or 0, core)
+        # What had come by then may have been told a little later than the beginning.
+        self._place(message, request, answers, self.history.at(asked.clock), revision.number or 0, core)
 
     def _learn(self, answered: Answered) -> None:
         """What an answer on PostgreSQL saw is known, when its number is."""
@@ -412,7 +427,7 @@ class SpiceDb:
         unsure = any(one.start <= snapshot < one.end for one in self.unsure)
         if unsure or snapshot < self.base:
             core.forget(message.number)
-            core.lose("the rules at a snapshot are not known" if unsure else "a snapshot is from before the log", message.begun, len(answers))
+            core.lose(UNSURE if unsure else "a snapshot is from before the log", message.begun, len(answers))
             return
         token = self._token(message, request, snapshot, known)
         core.put_entries(message, answers, max(known, snapshot), snapshot=snapshot, token=token)
@@ -426,11 +441,8 @@ class SpiceDb:
             return self._demanded(demanded)
         if not get(get(request, "consistency"), "fullyConsistent"):
             return None
-        # The newest commit that was visible when the check began.
-        if self.transactions is not None:
-            return max(snapshot, known)
-        place = bisect_right(self.commits, known)
-        return max(snapshot, self.commits[place - 1]) if place else snapshot
+        # The newest that was visible when the check began.
+        return max(snapshot, known)
 
     def _demanded(self, token: object) -> int:
         """The revision that a token demands to be seen."""
