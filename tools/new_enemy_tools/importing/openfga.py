@@ -252,6 +252,7 @@ class OpenFgaLog(Log):
     DECISIONS = frozenset(("Check", "BatchCheck", "ListObjects", "StreamedListObjects", "ListUsers"))
     WRITES = ("Write",)
     CALL_KNOWN = "other call (Write)"
+    HAS_PLACES = True
     PARTIAL = ("type",)
     GIVE_CHANGES = ("give the changes as ReadChanges answers them, or each line of Write its `time`, of which none may pass over what is there "
                     "already")
