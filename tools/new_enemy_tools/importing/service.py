@@ -241,6 +241,8 @@ class Log:
 
     def events(self, path: str, values: Iterable[tuple[int, Any]]) -> Iterator[Line]:
         for line, given in values:
+            for key in printed.mistyped(given):
+                self.refusals.refuse(path, line, key.said())
             try:
                 value = self._told(given, line)
             except Bad as fault:
@@ -262,14 +264,14 @@ class Log:
         if is_check and get(changes, self.DECIDES[0]) is not None:
             yield from self._checks(value, stamp, path, line)
         elif self.is_write(changes):
-            self._refuse_partial(get(value, "request"), changes)
+            self.refuse_partial(get(value, "request"), changes, path, line)
             yield from self.writes(changes, stamp, path, line)
         elif (rules := self.new_rules(value)) is not None:
             yield from self.change(rules, value, stamp, path, line)
         else:
             yield from self._call(value, is_check, stamp, path, line)
 
-    def _refuse_partial(self, request: object, changes: object) -> None:
+    def refuse_partial(self, request: object, changes: object, path: str, line: int) -> None:
         """Of changes that were asked for in part it is not known what stands between them; raises Bad."""
         found = get(changes, "changes") or get(get(changes, "result") or changes, "updates")
         asked = [key for key in self.PARTIAL if get(request, key)] if found else []
