@@ -133,7 +133,7 @@ class Columns:
 
     def read(self, indexer: Indexer) -> Read:
         self._note()
-        return Read(indexer.packed(self.checks()).dumped(), self.facts)
+        return Read(indexer.read(self.checks()), self.facts)
 
 
 def _texts(pairs: Mapping[tuple[bytes, bytes], int]) -> list[tuple[str, str]]:

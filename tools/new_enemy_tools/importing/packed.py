@@ -180,10 +180,16 @@ class Indexer:
         """With groups, writes of one revision that stand together may be one commit."""
         self.tuplesets, self.has_groups = frozenset(tuplesets), has_groups
 
-    def packed(self, checks: Checks) -> Packed:
+    def read(self, checks: Checks) -> bytes:
+        """A block of lines as others take it: packed, or rows where most are taken by themselves."""
+        joined, contents = self._plain_writes(checks), _plain_contents(checks)
+        if not checks.size and 2 * (len(joined) + len(contents)) < len(checks.others):
+            return marshal.dumps([row for _, _, row in checks.others])
+        return self._packed(checks, joined, contents).dumped()
+
+    def _packed(self, checks: Checks, joined: dict[int, bool], contents: set[int]) -> Packed:
+        """By the places of plain writes and of plain content checks."""
         others, names, parts = checks.others, _Names(), list[list[Run]]()
-        joined = self._plain_writes(checks)
-        contents = _plain_contents(checks)
         pairs, keys = dict.fromkeys(checks.pairs), dict[tuple[str, str, str], None]()
         asked = dict.fromkeys(look[5] for look in checks.looks if look[5] is not None)
         revisions = {revision for look in checks.looks for revision in (look[1], look[3])}

@@ -4,7 +4,6 @@ Each becomes a line with a `request` and a `response`, as a recorder writes it. 
 their public sources.
 """
 from datetime import datetime, timezone
-from functools import lru_cache
 from typing import Any, Iterable, Iterator, NamedTuple, Optional
 
 from new_enemy_tools.importing.reading import Bad, get
@@ -19,8 +18,10 @@ REQUEST_ID = ("requestID", "requestId", "request_id")
 OWN = "line of the service's own log"
 UNTOLD = "the line of this call has no request and no response: run `ne record`, or let the server log both"
 HEALTH = "Health"
-# The keys that a recorder adds to what a server prints of a check.
+# The keys that a recorder adds to what a server prints of a check; and those that are none of them with a slip, as far as they were met.
 ADDED = frozenset(("version", "content", "newest", "token", "snapshot", "snapshot_between"))
+FINE = set(ADDED)
+MOST_FINE = 1 << 12
 # So many calls that were answered are known until a line says that they ended.
 ANSWERED = 10_000
 
@@ -66,18 +67,23 @@ def mistyped(value: Any) -> Iterator[Unread]:
     if not isinstance(value, dict):
         return
     data = value["data"] if _is_event(value) else {}
-    if data or Joining.takes(value) or "raw_request" in value:
-        for key in (*value, *data):
-            if is_slip(key):
+    if not data and not Joining.takes(value) and "raw_request" not in value:
+        return
+    for part in (value, data):
+        for key in () if part.keys() <= FINE else part:
+            if len(key) > LONGEST or key in FINE:
+                continue
+            if _is_slip(key):
                 yield Unread(key, ADDED)
+            elif len(FINE) < MOST_FINE:
+                FINE.add(key)
 
 
-@lru_cache(1 << 12)
-def is_slip(key: str) -> bool:
+def _is_slip(key: str) -> bool:
     """Whether a key has the letters of one that a recorder adds in another order or case, or all but one of them. Those of servers are only
     like them, as `context` is like `content`."""
-    folded = key.lower() if len(key) <= LONGEST else ""
-    return key not in ADDED and any(sorted(folded) == sorted(one) or any(folded == one[:at] + one[at + 1:] for at in range(len(one))) for one in ADDED)
+    folded = key.lower()
+    return any(sorted(folded) == sorted(one) or any(folded == one[:at] + one[at + 1:] for at in range(len(one))) for one in ADDED)
 
 
 def _is_health(service: object) -> bool:
