@@ -223,6 +223,9 @@ class OpenFga(Case):
         os.remove(self.path("ids.jsonl"))
         self.put("log", [*pages[1:3], *pages[4:], self.check(at=2)])
         self.assertEqual(self.refused(*words), ["log:3: " + told])
+        self.assertIn("F10 wrong reply", self.report(pages[0]["response"], *pages[2:], stale))
+        os.remove(self.path("trace.jsonl"))
+        os.remove(self.path("ids.jsonl"))
         odd = page("1", "2", change("user:b", at=AT % 2), continuation_token=[1])
         self.assertEqual(self.refused(*self.words(pages[0], odd, self.check(at=1))), ["log:2: a `continuation_token` is no text"])
 

@@ -301,7 +301,7 @@ class OpenFgaLog(Log):
 
     def placed(self, lines: Lines, skew: Optional[int]) -> Lines:
         self._refuse_stores()
-        self._refuse_missing_pages(skew is not None or lines.facts.is_sequenced)
+        self._refuse_missing_pages(lines, skew is not None or lines.facts.is_sequenced)
         self.refuse_unseen(lines)
         # Of a call the service does not say which changes are its; where the log has any, it has all.
         lines = self.with_calls(lines, lambda row: None)
@@ -346,7 +346,7 @@ class OpenFgaLog(Log):
         if not isinstance(behind, str) or not isinstance(ends, str):
             raise Bad("a `continuation_token` is no text")
         if request is not None and isinstance(get(changes, "changes"), list):
-            self.refusals.pages.append((hash(behind) if behind else None, hash(ends), path, line))
+            self.refusals.pages.append((hash(behind) if behind else None, hash(ends), len(get(changes, "changes")), path, line))
         if not since or behind:
             return
         begins, base = nanoseconds(since), self.base_at and self.base_at.time
@@ -354,13 +354,15 @@ class OpenFgaLog(Log):
             raise Bad("the request of these changes has a `start_time`, and the log does not have those before: give all changes, or a base state "
                       "of that time")
 
-    def _refuse_missing_pages(self, is_ordered: bool) -> None:
-        """Each page begins behind one that the log has, which stands before it where stamps give no order; the first may where the base state ends."""
-        ends = {given for behind, given, _, _ in self.refusals.pages if given != behind} if is_ordered else set()
-        first = None
-        for behind, given, path, line in self.refusals.pages:
-            if first is None and self.base_at is not None:
-                first = behind
+    def _refuse_missing_pages(self, lines: Lines, is_ordered: bool) -> None:
+        """Each page begins behind one that the log has, which stands before it where stamps give no order; the first may where the base state ends.
+        Where some changes have no request, a page may begin behind these."""
+        pages = self.refusals.pages
+        if not pages or sum(count for _, _, count, _, _ in pages) != sum(1 for _ in lines.writes()):
+            return
+        ends = {given for behind, given, *_ in pages if given != behind} if is_ordered else set()
+        first = pages[0][0] if self.base_at is not None else None
+        for behind, given, _, path, line in pages:
             if behind is not None and behind not in ends and behind != first:
                 self.refusals.refuse(path, line, MISSING)
             ends.add(given)
