@@ -127,7 +127,8 @@ class Taken:
             key[:2] not in declared.tuplesets for key in index.keys) and (
             not index.plain or self.last is None or index.writes[index.plain[0]] > self.last) and all(
             version in self.issued and version not in self.twice for version in index.named) and all(
-            one.version not in self.issued for one in index.issued)
+            one.version not in self.issued for one in index.issued) and all(
+            row[0] != "content" or (*row[3][:2], row[8]) not in self.issued for *_, row in index.odd)
 
     def _take_before(self, block: Packed, names: list[Run], start: Sequence[int], end: Sequence[int], spans: Spans) -> None:
         """Takes what is named up to a row, and the plain writes and the saved versions between two places of each."""
