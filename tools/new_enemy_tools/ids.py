@@ -9,7 +9,7 @@ import json
 import os
 import re
 from contextlib import contextmanager
-from typing import BinaryIO, Iterator, Optional, Sequence, Union
+from typing import Any, BinaryIO, Iterator, Optional, Sequence, Union
 
 from new_enemy_tools import limits, texts
 from new_enemy_tools.faults import ToolFault
@@ -18,6 +18,8 @@ from new_enemy_tools.keys import unread
 KEYS = frozenset(("kind", "type", "id", "number"))
 SERVICE = "service"
 BLOCK = 1 << 20
+# So many rows are written at once.
+AT_ONCE = 1 << 12
 KINDS = ("user", "namespace", "relation", "object", "version")
 NAME = re.compile(r"n_([1-9][0-9]*)")
 ID = re.compile(r"~([1-9][0-9]*)")
@@ -39,6 +41,19 @@ def _row(value: object, number: int) -> tuple[str, str, str]:
             or not all(isinstance(value.get(key), str) for key in ("type", "id")) or not isinstance(value.get(SERVICE, ""), str):
         raise ValueError
     return value["kind"], value["type"], value["id"]
+
+
+def _are_plain(rows: Sequence[tuple[Any, ...]]) -> bool:
+    """Whether JSON has the texts of rows as they are."""
+    text = "".join([of + id_text for _, of, id_text, *_ in rows])
+    return text.isascii() and text.isprintable() and '"' not in text and "\\" not in text
+
+
+def _row_lines(rows: list[tuple[str, str, str, int]], more: dict[str, str]) -> bytes:
+    """Rows with their numbers as the file has them."""
+    if _are_plain(rows) and not more:
+        return "".join(['{"kind":"%s","type":"%s","id":"%s","number":%d}\n' % row for row in rows]).encode()
+    return "".join([encode({**dict(zip(("kind", "type", "id", "number"), row)), **more}) + "\n" for row in rows]).encode()
 
 
 def is_kept(id_text: str) -> bool:
@@ -103,8 +118,11 @@ class Ids:
     def __init__(self, path: Optional[str] = None):
         self.path = path
         self.rows: list[tuple[str, str, str]] = []
-        self.numbers: dict[tuple[str, str, str], int] = {}
+        # by kinds and types, and then by ids
+        self.numbers: dict[tuple[str, str], dict[str, int]] = {}
         self.kept = 0
+        # whether all is numbered: each process that makes lines of a trace has the table for itself
+        self.is_closed = False
         self.service: Optional[str] = None
         self._names: dict[tuple[str, str, str], str] = {}
         if path and os.path.exists(path):
@@ -124,8 +142,10 @@ class Ids:
         except UnicodeDecodeError:
             return False
         rows = [(kind, of, id_text) for kind, of, id_text, _, _ in found]
-        numbers = dict(zip(rows, range(1, len(rows) + 1)))
-        if len(rows) != data.count(b"\n") or not data.endswith(b"\n") or len(numbers) != len(rows) \
+        numbers = dict[tuple[str, str], dict[str, int]]()
+        for number, (kind, of, id_text) in enumerate(rows, 1):
+            numbers.setdefault((kind, of), {})[id_text] = number
+        if len(rows) != data.count(b"\n") or not data.endswith(b"\n") or sum(map(len, numbers.values())) != len(rows) \
                 or [number for _, _, _, number, _ in found] != list(map(str, range(1, len(rows) + 1))) or any(service for *_, service in found[1:]):
             return False
         self.rows, self.numbers, self.service = rows, numbers, found[0][4] or None
@@ -141,12 +161,13 @@ class Ids:
                 raise TableFault("%s:%d: %s" % (path, number, fault)) from None
             except ValueError:
                 raise TableFault("%s:%d: no row of the table, or not number %d" % (path, number, number)) from None
-            if row in self.numbers:
-                raise TableFault("%s:%d: this row stands on line %d too" % (path, number, self.numbers[row]))
+            known = self.known(*row)
+            if known is not None:
+                raise TableFault("%s:%d: this row stands on line %d too" % (path, number, known))
             if not line.endswith(b"\n"):
                 raise TableFault("%s:%d: the line has no end" % (path, number))
             self.rows.append(row)
-            self.numbers[row] = number
+            self.numbers.setdefault(row[:2], {})[row[2]] = number
 
     def take_for(self, service: str) -> None:
         """Says whose table it is; raises TableFault where it is another's. A table may be older than that rows say so."""
@@ -157,8 +178,9 @@ class Ids:
 
     def forget(self) -> None:
         """Takes the rows back that are not in the file."""
-        for row in self.rows[self.kept:]:
-            del self.numbers[row]
+        for kind, of, id_text in self.rows[self.kept:]:
+            del self.numbers[kind, of][id_text]
+        self.numbers = {key: table for key, table in self.numbers.items() if table}
         del self.rows[self.kept:]
         self._names.clear()
 
@@ -170,8 +192,10 @@ class Ids:
         # It takes long to load, and not every table is compared.
         from hashlib import blake2b
         digest = blake2b(digest_size=16)
-        for row in self.rows[:count]:
-            digest.update(json.dumps(row).encode() + b"\n")
+        for at in range(0, count, AT_ONCE):
+            rows = self.rows[at:min(at + AT_ONCE, count)]
+            plain = '["%s", "%s", "%s"]\n' if _are_plain(rows) else None
+            digest.update("".join([plain % row for row in rows] if plain else [json.dumps(row) + "\n" for row in rows]).encode())
         return digest.hexdigest()
 
     def refuse_other(self, mark: object) -> None:
@@ -185,27 +209,33 @@ class Ids:
         if self._checksum(rows) != checksum:
             raise TableFault("%s is another table than that of this trace: its first %d rows are others" % (self.path, rows))
 
+    def known(self, kind: str, of: str, id_text: str) -> Optional[int]:
+        """The number of a row; None where there is no such row."""
+        return self.numbers.get((kind, of), {}).get(id_text)
+
     def number(self, kind: str, of: str, id_text: str) -> int:
         """The number of a row, which is added where it is new."""
-        row = (kind, of, id_text)
-        number = self.numbers.get(row)
+        table = self.numbers.get((kind, of))
+        if table is None:
+            table = self.numbers[kind, of] = {}
+        number = table.get(id_text)
         if number is None:
-            self.rows.append(row)
-            number = self.numbers[row] = len(self.rows)
+            if self.is_closed:
+                raise KeyError((kind, of, id_text))
+            self.rows.append((kind, of, id_text))
+            number = table[id_text] = len(self.rows)
         return number
 
-    def known_users(self, given: list[tuple[str, str]]) -> list[Optional[int]]:
-        """The numbers of users by their types and ids, None where there is none yet."""
-        return [self.numbers.get(("user", of, id_text)) for of, id_text in given]
-
-    def kept_users(self, given: list[tuple[str, str]]) -> list[Optional[int]]:
-        """The numbers that users have in the file, None for others; nothing where the file has no rows."""
-        kept = self.kept
-        return [None if number is None or number > kept else number for number in self.known_users(given)] if kept else []
+    def add(self, kind: str, of: str, ids: list[str]) -> None:
+        """Gives numbers to rows of one kind and type, in their order."""
+        table = self.numbers.setdefault((kind, of), {})
+        new = list(dict.fromkeys([id_text for id_text in ids if id_text not in table]))
+        table.update(zip(new, range(len(self.rows) + 1, len(self.rows) + len(new) + 1)))
+        self.rows += [(kind, of, id_text) for id_text in new]
 
     def has(self, goal: tuple[str, ...]) -> bool:
         """Whether the user and the object of a goal were seen; its parts are those of a tuple of a service."""
-        return ("user", goal[3], goal[4]) in self.numbers and (is_kept(goal[1]) or ("object", goal[0], goal[1]) in self.numbers)
+        return self.known("user", goal[3], goal[4]) is not None and (is_kept(goal[1]) or self.known("object", goal[0], goal[1]) is not None)
 
     def note(self, goal: tuple[str, ...]) -> None:
         self.number("user", goal[3], goal[4])
@@ -229,13 +259,11 @@ class Ids:
     def append(self) -> None:
         """Writes the new rows behind those of the file."""
         if self.path and len(self.rows) > self.kept:
-            with open(self.path, "a", encoding="utf-8") as file:
-                for number in range(self.kept, len(self.rows)):
-                    kind, of, id_text = self.rows[number]
-                    row = {"kind": kind, "type": of, "id": id_text, "number": number + 1}
-                    if number == 0 and self.service is not None:
-                        row[SERVICE] = self.service
-                    file.write(encode(row) + "\n")
+            with open(self.path, "ab") as file:
+                for at in range(self.kept, len(self.rows), AT_ONCE):
+                    rows = [(*row, number) for number, row in enumerate(self.rows[at:at + AT_ONCE], at + 1)]
+                    said = {} if at or self.service is None else {SERVICE: self.service}
+                    file.write(_row_lines(rows[:1] if said else [], said) + _row_lines(rows[1:] if said else rows, {}))
             self.kept = len(self.rows)
 
     def _of(self, number: int, kind: str) -> Optional[tuple[str, str, str]]:

@@ -82,6 +82,25 @@ class Blocks(BlockCase):
             'log:178: unknown key "verison"; is "version" meant?',
             "log:179: its revision 3 is not later than that of log:175, 59", "refused 2"])
 
+    def test_a_version_that_is_saved_behind_its_check(self):
+        """It may have been saved before the log, too; that does not hang on where blocks end."""
+        goal = rel(user="a")
+        named = [check(2, goal=goal, token=2, version=label) for label in ("a", "late")]
+        self.given(RULES, write(1, goal, base=True), write(2, rel("2")), content(2, "a", goal=goal, token=2), *[named[0]] * 60,
+                   named[1], named[0], content(2, "late", goal=goal, token=2), named[1], *[named[0]] * 20)
+        status, said, _, _ = self.same("events", "log")
+        self.assertEqual(status, 6)
+        self.assertIn("checks: 84 whole, 1 in part", said)
+        self.assertIn("verdict clean", self.audited())
+
+    def test_a_version_that_is_saved_again_twice_in_a_later_block(self):
+        goal = rel(user="a")
+        named = check(2, goal=goal, token=2, version="v")
+        self.given(RULES, write(1, goal), write(2, rel("2")), content(2, "v", goal=goal, token=2), *[named] * 60,
+                   *[content(2, "v", goal=goal, token=1)] * 2, named, write(3, rel("3")), *[named] * 20)
+        status, said, _, _ = self.same("events", "--from-empty", "log")
+        self.assertEqual((status, said.splitlines()[2]), (6, "checks: 61 whole, 23 in part"))
+
     def test_services(self):
         for kind, more in ((OpenFga, {}), (SpiceDb, {})):
             service = kind(Random("blocks"))

@@ -1,6 +1,7 @@
 """The core of the importer, by neutral events: order, numbers, timestamps, strata, what is left out and what is told."""
 import json
 import os
+import re
 from unittest import mock
 
 from new_enemy_tools import limits
@@ -399,6 +400,15 @@ class FilesInAnyOrder(CoreCase):
 
     def test_of_one_sequence(self):
         self.assert_same([one | {"sequence": number} for number, one in enumerate(self.LINES)])
+
+    def test_a_stale_reply_is_found_in_each_order_of_the_files(self):
+        lines = [one | {"sequence": number} for number, one in enumerate([*self.LINES, check(2, version="v", token=1), check(3, True)])]
+        self.given(*lines[::2], name="first")
+        self.given(*lines[1::2], name="second")
+        for names in ("first", "second"), ("second", "first"):
+            self.imported("events", *names)
+            self.assertEqual(re.findall("F[0-9]+ .*", self.audited()), ["F2 old token, see line 5", "F10 wrong reply"])
+            os.remove(self.path("ids.jsonl"))
 
     def test_of_one_clock(self):
         times = [one | {"time": "2024-01-01T00:00:%02dZ" % number, "clock": "c"} for number, one in enumerate(self.LINES)]

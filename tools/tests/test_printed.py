@@ -49,6 +49,14 @@ class OpenFga(LogCase):
         self.assertEqual([line for line in self.said.splitlines() if line.startswith("passed")], [
             "passed over 1: failed request (2000)", "passed over 2: line of the service's own log", "passed over 1: other call (ListStores)"])
 
+    def test_a_mistyped_key_among_those_of_the_server_is_refused(self):
+        key = {"user": "user:a", "relation": "viewer", "object": "doc:1"}
+        log = change("user:a"), self.printed("Check", {"tuple_key": key}, {"allowed": True}, snapshot=1, verison="v")
+        self.assertEqual(self.refused(*self.words(*log)), ['log:2: unknown key "verison"; is "version" meant?'])
+        log[1].pop("verison")
+        log[1].update({"build.version": "1.8", "request_id": "x", "user_agent": "y", "store_id": "z", "trace_id": "t", "query_duration_ms": "1"})
+        self.assertEqual(self.report(*log), "entries 1\nfindings 0\nverdict clean\n")
+
     def test_a_log_of_two_stores_is_refused(self):
         """A check of one is not judged by the tuples of another. Calls that decide and write nothing may be of any."""
         key = {"user": "user:a", "relation": "viewer", "object": "doc:1"}
@@ -211,6 +219,55 @@ class SpiceDb(LogCase):
         self.assertEqual([line for line in self.said.splitlines() if line.startswith("passed")], [
             "passed over 1: call that found nothing", "passed over 1: failed request (Unknown)", "passed over 1: other call (Health)",
             "passed over 1: other call (ReadSchema)"])
+
+    def shown(self, request_id, line, **added):
+        """The lines of a check of one who may no longer view, with these keys on one of them."""
+        lines = self.checked(request_id, "user:a", 2, 1)
+        lines[line] |= added
+        return lines
+
+    def test_keys_of_a_recorder_on_either_line(self):
+        """A version that is not read would be a check whose old token is not looked for."""
+        log = [watch(1, update("user:a")), *self.shown("1", 1, content={"version": "v", "token": token_text(1)}),
+               watch(2, update("user:a", operation="DELETE"))]
+        for line in 0, 1:
+            self.assertIn("F2 old token", self.report(*log, *self.shown("2", line, version="v")))
+            self.forget()
+        log[1:3] = self.shown("1", 0, content={"version": "v", "token": token_text(1)})
+        self.assertIn("F2 old token", self.report(*log, *self.shown("2", 0, version="v")))
+        self.forget()
+        both = self.shown("2", 0, version="v")
+        both[1] |= {"version": "w"}
+        self.assertEqual(self.struck(*self.words(*log, *both)), [
+            "log:6: check that can't be read: the lines of the request and of the response have each a `version`, and they are not the same"])
+        both[1] |= {"version": "v"}
+        self.assertIn("F2 old token", self.report(*log, *both))
+
+    def test_a_mistyped_key_among_those_of_the_server_is_refused(self):
+        log = [watch(1, update("user:a")), *self.shown("1", 1, content={"version": "v", "token": token_text(1)})]
+        for line, key in (0, "verison"), (1, "verison"), (1, "Version"), (1, "vesion"):
+            self.assertEqual(self.refused(*self.words(*log, *self.shown("2", line, **{key: "v"}))), [
+                'log:%d: unknown key "%s"; is "version" meant?' % (4 + line, key)])
+        self.assertIn("clean", self.report(*log, *self.shown("2", 1, **{"build.version": "1", "specversion": "1", "versions": 1, "context": {}})))
+
+    def test_keys_of_a_recorder_in_an_event(self):
+        """They stand beside the request and the response, or beside the `data`."""
+        def event(check, **more):
+            return {"specversion": "1.0", "id": "1", "source": "/ps/one", "type": "/authzed.api.v1.PermissionsService/CheckPermission",
+                    "time": AT % 1, "data": check, **more}
+        saves = {"content": {"version": "v", "token": token_text(1)}}
+        for within in True, False:
+            def told(**added):
+                return event(self.check(1) | added) if within else event(self.check(1), **added)
+            log = [watch(1, update("user:a")), told(**saves), watch(2, update("user:a", operation="DELETE"))]
+            self.assertIn("F2 old token", self.report(*log, told(version="v")))
+            self.forget()
+            self.assertEqual(self.refused(*self.words(*log, told(verison="v"))), ['log:4: unknown key "verison"; is "version" meant?'])
+        self.assertEqual(self.struck(*self.words(*log, event(self.check(1) | {"version": "v"}, version="w"))), [
+            "log:4: check that can't be read: the event and its `data` have each a `version`, and they are not the same"])
+        self.forget()
+        more = event(self.check(1) | {"context": {}, "contents": 1}, sequence="1", sequencetype="Integer", schemaversion="2", apiversion="1", traceparent="x")
+        self.assertIn("clean", self.report(watch(1, update("user:a")), more))
 
     def test_names_as_numbers(self):
         one = update("user:a")

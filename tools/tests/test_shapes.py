@@ -9,6 +9,7 @@ from new_enemy_tools.importing.events import read_events
 from new_enemy_tools.importing.neutral import CHECK, USUAL
 from new_enemy_tools.importing.openfga import OpenFgaLog
 from new_enemy_tools.importing.refusals import Refusals
+from new_enemy_tools.importing.packed import Indexer
 from new_enemy_tools.importing.shapes import shape_of
 from new_enemy_tools.importing.spicedb import SpiceDbLog
 from tests.test_blocks import BlockCase
@@ -83,7 +84,7 @@ class Shapes(BlockCase):
                 numbers.append(number)
                 return list(read_events(located.line_values(number, line, "log", Refusals()), "log", Refusals()))
             data = "".join(json.dumps(value) + "\n" for value in values).encode()
-            list(Reader("log", USUAL).pieces(located.Block(1, data), full))
+            list(Reader("log", USUAL, Indexer()).pieces(located.Block(1, data), full))
             return numbers
 
         lines = [check(at % 9, at % 2 == 0, rel(str(at))) for at in range(50)]

@@ -179,6 +179,56 @@ class OpenFga(Case):
         failed = self.write(2, deletes=["user:a"]) | {"response": {"code": "write_failed_due_to_invalid_input", "message": "no"}}
         self.assertEqual(self.report(self.write(1, ["user:a"]), failed, self.check(at=1)), "entries 1\nfindings 0\nverdict clean\n")
 
+    def test_changes_from_a_time_on_are_refused(self):
+        """What was changed before is not there, and the store was not as it seems; but where the base state has it."""
+        page = {"changes": [change("user:a", at=AT % 5)], "continuation_token": ""}
+        read = {"request": {"start_time": AT % 3, "page_size": 50}, "response": page}
+        told = "log:1: the request of these changes has a `start_time`, and the log does not have those before: give all changes, or a base state of that time"
+        self.assertEqual(self.refused(*self.words(read, self.check(at=1))), [told])
+        self.put("base.jsonl", [])
+        for at, found in ((2, [told]), (3, []), (4, [])):
+            words = [*self.words(read, self.check(at=1))]
+            words[words.index("--from-empty")] = "--base"
+            words[words.index("--base") + 1:words.index("--base") + 1] = ["base.jsonl", "--base-at", AT % at]
+            if found:
+                self.assertEqual(self.refused(*words), found)
+            else:
+                self.imported(*words)
+                self.assertEqual(self.audited(), "entries 1\nfindings 0\nverdict clean\n")
+
+    def test_a_page_of_changes_that_is_missing_is_refused(self):
+        """Each page begins behind one that the log has; the first one does where the base state ends, or with the store."""
+        def page(asked, given, *changes, **more):
+            return {"request": {**({"continuation_token": asked} if asked else {}), "page_size": 1, **more},
+                    "response": {"changes": list(changes), "continuation_token": given}}
+        pages = [page("", "1", change("user:a", at=AT % 1)), page("1", "1"), page("1", "2", change("user:b", at=AT % 2)),
+                 page("2", "3", change("user:a", at=AT % 3, operation="DELETE"), start_time=AT % 1), page("3", "3")]
+        stale = self.check(at=3)
+        for log in pages, pages + pages[2:], pages[:2] * 2 + pages[2:]:
+            self.assertIn("F10 wrong reply", self.report(*log, stale))
+            os.remove(self.path("trace.jsonl"))
+            os.remove(self.path("ids.jsonl"))
+        told = ("these changes go on from a `continuation_token` that no page of the log gives: a page of changes is missing; give all pages from "
+                "the first on, or from the base state on")
+        self.assertEqual(self.refused(*self.words(*pages[:2], *pages[3:], self.check(at=2))), ["log:3: " + told])
+        self.assertEqual(self.refused(*self.words(*pages[2:], self.check(at=2))), ["log:1: " + told])
+        self.assertEqual(self.refused(*self.words(*pages[2:], *pages[:2], stale)), ["log:1: " + told])
+        self.assertEqual(self.refused(*self.words(pages[1], stale)), ["log:1: " + told])
+        self.put("base.jsonl", [{"key": change("user:a")["tuple_key"], "timestamp": AT % 1}])
+        words = ["openfga", "--model", "model.json", "--base", "base.jsonl", "--base-at", "1", "log"]
+        self.put("log", [*pages[1:], self.check(at=2)])
+        self.imported(*words)
+        self.assertEqual(self.audited(), "entries 1\nfindings 0\nverdict clean\n")
+        os.remove(self.path("trace.jsonl"))
+        os.remove(self.path("ids.jsonl"))
+        self.put("log", [*pages[1:3], *pages[4:], self.check(at=2)])
+        self.assertEqual(self.refused(*words), ["log:3: " + told])
+        self.assertIn("F10 wrong reply", self.report(pages[0]["response"], *pages[2:], stale))
+        os.remove(self.path("trace.jsonl"))
+        os.remove(self.path("ids.jsonl"))
+        odd = page("1", "2", change("user:b", at=AT % 2), continuation_token=[1])
+        self.assertEqual(self.refused(*self.words(pages[0], odd, self.check(at=1))), ["log:2: a `continuation_token` is no text"])
+
     def test_changes_of_one_type_are_refused(self):
         """A change of another type between them is not there, and the places are others."""
         page = {"changes": [change("user:a")], "continuation_token": ""}

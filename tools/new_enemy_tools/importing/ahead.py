@@ -1,8 +1,8 @@
 """Lines that are taken while others are still read, where nothing of what is done with them hangs on all of them."""
 from typing import Any, Iterator, Union
 
-from new_enemy_tools.importing.checks import Checks
 from new_enemy_tools.importing.events import Event
+from new_enemy_tools.importing.packed import Packed
 from new_enemy_tools.importing.refusals import Refusals
 from new_enemy_tools.importing.spool import Facts, Lines
 
@@ -22,7 +22,7 @@ class Ahead:
         """Whether lines that were read so far are plain."""
         return bool(self.lines.facts.count) and self._is_plain(self.lines.facts)
 
-    def stream(self, more: Iterator[object]) -> Iterator[Union[Checks, Event, tuple[Any, ...]]]:
+    def stream(self, more: Iterator[object]) -> Iterator[Union[Packed, Event, tuple[Any, ...]]]:
         """The lines, as they are read, up to one with which this ends."""
         for found in self.lines.growing(more):
             if not self._is_plain(self.lines.facts):

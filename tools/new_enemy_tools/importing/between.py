@@ -18,18 +18,20 @@ STATES = 1_000
 class Spans:
     """The revisions that some check looks at, which are gone through where one is asked for."""
 
-    def __init__(self, spans: Iterable[tuple[int, int, Optional[int]]]):
-        self.spans = iter(spans)
+    def __init__(self, spans: Iterable[tuple[int, int]]):
+        self.spans: Optional[Iterable[tuple[int, int]]] = spans
+        self.points: set[int] = set()
         self.starts: list[int] = []
         self.ends: list[int] = []
 
-    def _gather(self) -> None:
-        wanted: set[tuple[int, int]] = set()
-        for low, high, token in self.spans:
-            wanted.add((low, high))
-            if token is not None:
-                wanted.add((token, token))
-        for low, high in sorted(wanted):
+    def _gather(self, spans: Iterable[tuple[int, int]]) -> None:
+        wide: set[tuple[int, int]] = set()
+        for low, high in spans:
+            if low == high:
+                self.points.add(low)
+            else:
+                wide.add((low, high))
+        for low, high in sorted(wide):
             if self.ends and low <= self.ends[-1]:
                 self.ends[-1] = max(high, self.ends[-1])
             else:
@@ -37,8 +39,11 @@ class Spans:
                 self.ends.append(high)
 
     def has(self, revision: int) -> bool:
-        if not self.starts:
-            self._gather()
+        if self.spans is not None:
+            self._gather(self.spans)
+            self.spans = None
+        if revision in self.points:
+            return True
         place = bisect_right(self.starts, revision) - 1
         return place >= 0 and revision <= self.ends[place]
 

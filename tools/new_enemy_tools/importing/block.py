@@ -1,5 +1,4 @@
 """Reads blocks of a log: lines of a usual shape by that shape, all others in full."""
-import marshal
 import re
 from array import array
 from typing import Any, Callable, Iterable, Iterator, Mapping, NamedTuple, Optional, Union
@@ -7,6 +6,7 @@ from typing import Any, Callable, Iterable, Iterator, Mapping, NamedTuple, Optio
 from new_enemy_tools.importing.checks import NAMES, NEWEST, Checks, Look, Other, Row
 from new_enemy_tools.importing.events import Event, Line
 from new_enemy_tools.importing.located import BLANK, Block
+from new_enemy_tools.importing.packed import Indexer
 from new_enemy_tools.importing.printed import time_of as time_of_epoch
 from new_enemy_tools.importing.shapes import QUOTE, Form, Said, Shape, Shapes, shape_of
 from new_enemy_tools.importing.spool import Facts, Read, row_of
@@ -20,8 +20,6 @@ DAY = len("2024-05-06")
 Full = Callable[[int, bytes], list[Line]]
 # The type, the relation, and the user's type and relation of a tuple.
 Names = tuple[str, str, str, Optional[str]]
-# The numbers of users by their types and ids, None for one that is not known; nothing where none is.
-Known = Callable[[list[tuple[str, str]]], list[Optional[int]]]
 
 
 class When(NamedTuple):
@@ -55,8 +53,8 @@ class Usual(NamedTuple):
 class Columns:
     """The columns of the checks of a block, as they are read."""
 
-    def __init__(self, path: str, known: Known):
-        self.path, self.known, self.facts, self.rows = path, known, Facts(), 0
+    def __init__(self, path: str):
+        self.path, self.facts, self.rows = path, Facts(), 0
         self.pairs: dict[tuple[bytes, bytes], int] = {}
         self.users: dict[tuple[bytes, bytes], int] = {}
         self.looks: list[Row] = []
@@ -127,15 +125,15 @@ class Columns:
             self.facts.note_checks(self.path, first, self.has_all)
 
     def checks(self) -> Checks:
-        times, users = self.times and self.times + [b""] * (len(self.lines) - len(self.times)), _texts(self.users)
-        return Checks(self.path, _texts(self.pairs), users, self.known(users), self.looks, array("I", self.pair_of).tobytes(),
+        times = self.times and self.times + [b""] * (len(self.lines) - len(self.times))
+        return Checks(self.path, _texts(self.pairs), _texts(self.users), self.looks, array("I", self.pair_of).tobytes(),
                       array("I", self.user_of).tobytes(), array("I", self.look_of).tobytes(), b"\n".join(self.objects).decode(),
                       array("Q", self.lines).tobytes(), b"\n".join(times).decode(), self.others,
                       array("q", self.sequences + [-1] * (len(self.lines) - len(self.sequences))).tobytes() if self.sequences else b"")
 
-    def read(self) -> Read:
+    def read(self, indexer: Indexer) -> Read:
         self._note()
-        return Read(marshal.dumps(tuple(self.checks())), self.facts)
+        return Read(indexer.read(self.checks()), self.facts)
 
 
 def _texts(pairs: Mapping[tuple[bytes, bytes], int]) -> list[tuple[str, str]]:
@@ -145,8 +143,8 @@ def _texts(pairs: Mapping[tuple[bytes, bytes], int]) -> list[tuple[str, str]]:
 class Reader:
     """Reads a log's blocks, and learns the shapes of its lines."""
 
-    def __init__(self, path: str, usual: Usual, known: Known = lambda users: []):
-        self.path, self.usual, self.known = path, usual, known
+    def __init__(self, path: str, usual: Usual, indexer: Indexer):
+        self.path, self.usual, self.indexer = path, usual, indexer
         self.shapes = Shapes()
         self.tried = 0
         self.days: dict[bytes, bool] = {}
@@ -158,7 +156,7 @@ class Reader:
         lines = enumerate(block.data.split(b"\n"), block.first)
         given: list[Line] = []
         while True:
-            columns = Columns(self.path, self.known)
+            columns = Columns(self.path)
             for number, line in self._odd(lines, columns):
                 given = full(number, line)
                 if any(one.kind == "rules" for one in given):
@@ -168,9 +166,9 @@ class Reader:
                 if given and len(self.shapes.listed) < MOST and self.tried < TRIES:
                     self._learn(number, line, [row_of(one) for one in given])
             else:
-                yield columns.read()
+                yield columns.read(self.indexer)
                 return
-            yield columns.read()
+            yield columns.read(self.indexer)
             # such a line has nothing else
             yield from [one for one in given if isinstance(one, Event)]
 
@@ -284,7 +282,7 @@ class Reader:
             found = shape.match(line)
             shape.sides = [] if found is None else sides_of(shape, found, rows)
         known, self.shapes = self.shapes, Shapes(shape)
-        columns = Columns(self.path, self.known)
+        columns = Columns(self.path)
         is_right = not list(self._odd([(number, line)], columns)) and list(columns.checks().rows()) == rows
         shape.looks.clear()
         self.shapes = known

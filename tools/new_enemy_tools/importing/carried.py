@@ -8,7 +8,7 @@ from itertools import islice
 from typing import Callable, Iterable, Iterator, NamedTuple, Optional, Union
 
 from new_enemy_tools.importing.located import BLANK, Block, Place, Source, line_value
-from new_enemy_tools.importing.printed import ANSWERED, FINISHED, REQUEST, RESPONSE, Joining, Step, plain_of, steps_of
+from new_enemy_tools.importing.printed import ANSWERED, FINISHED, REQUEST, RESPONSE, Joining, Step, steps_of
 from new_enemy_tools.importing.refusals import Refusals
 from new_enemy_tools.importing.spool import Read
 from new_enemy_tools.parting.sharing import shared
@@ -42,7 +42,7 @@ class Carried(NamedTuple):
             value = _value(line)
             if not isinstance(value, dict) or REQUEST not in value:
                 raise Otherwise
-            joining.waiting[found] = plain_of(value[REQUEST]), number
+            joining.wait(found, value, number)
         return joining
 
 

@@ -33,13 +33,12 @@ class Checks(NamedTuple):
     """The columns have an item for each check: its pair, user and look by their places, its object, its line, and its time and its sequence, if
     any has one, where -1 stands for none.
 
-    `numbers` are those of users that the table of ids has, None for others, or nothing where that is not known. `others` are rows, each with the number of checks before it, and of the users that these have.
+    `others` are rows, each with the number of checks before it, and of the users that these have.
     """
 
     file: str
     pairs: list[tuple[str, str]]
-    users: list[Any]
-    numbers: list[Optional[int]]
+    users: list[tuple[str, str]]
     looks: list[Row]
     pair_of: bytes
     user_of: bytes

@@ -79,19 +79,19 @@ class Writer:
                         self._store(event, one, relationship)
                     texts_of.append(self.text(one))
 
-    def text_of(self, given: tuple[Any, ...]) -> Optional[str]:
-        """The text of a relationship that gives one tuple of one user and no edge; None for any other, which `write` takes."""
-        of, thing, relation, user_type, user_id, user_relation = given
-        name = of, relation
-        around = self.around.get(name)
-        if user_relation is not None or around is None and (
-                name in self.declared.tuplesets or not self.declared.rules.is_declared(of, relation)):
-            return None
-        number = self.ids.number("user", user_type, user_id)
+    def commit_of(self, rows: list[tuple[Any, ...]]) -> tuple[Any, ...]:
+        """The row of a commit, by those of its plain writes, whose tuples are of single users and give no edge."""
+        sides = [[self.text_of(given) for row in rows for given in row[side]] for side in (10, 11)]
+        return ("commit", rows[-1][3], rows[0][4], rows[0][1], rows[0][2], rows[0][8], [tuple(sides)])
+
+    def text_of(self, given: tuple[Any, ...]) -> str:
+        """The text of a relationship of a single user that gives no edge."""
+        of, thing, relation, user_type, user_id, _ = given
+        around = self.around.get((of, relation))
         if around is None:
             after = "#%s@" % self.ids.name("relation", relation)
-            around = self.around[name] = "%s:" % self.ids.name("namespace", of), after
-        return "%s%s%s%d" % (around[0], self.ids.object(of, thing), around[1], number)
+            around = self.around[of, relation] = "%s:" % self.ids.name("namespace", of), after
+        return "%s%s%s%d" % (around[0], self.ids.object(of, thing), around[1], self.ids.number("user", user_type, user_id))
 
     def is_repeated(self, commit: Commit, event: Event) -> bool:
         """Whether a write says again what the commit has."""

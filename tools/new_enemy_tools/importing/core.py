@@ -13,7 +13,6 @@ from new_enemy_tools.ids import Ids
 from new_enemy_tools.importing import causes, going_on
 from new_enemy_tools.importing.ahead import Ahead
 from new_enemy_tools.importing.between import STATES, Asked, Spans
-from new_enemy_tools.importing.checks import Checks
 from new_enemy_tools.importing.commits import Commit, Writer
 from new_enemy_tools.importing.declared import Declared
 from new_enemy_tools.importing.doubts import Doubts
@@ -21,9 +20,10 @@ from new_enemy_tools.importing.events import Entry, Event
 from new_enemy_tools.importing.going_on import Left
 from new_enemy_tools.importing.newest import put_newest
 from new_enemy_tools.importing.order import in_order, is_before_base
+from new_enemy_tools.importing.packed import Kept, Packed
 from new_enemy_tools.importing.refusals import Refusals
 from new_enemy_tools.importing.shown import Shown
-from new_enemy_tools.importing.spool import BATCH, CHECKS, Facts, Lines, checks_of
+from new_enemy_tools.importing.spool import BATCH, CHECKS, Facts, Lines
 from new_enemy_tools.importing.strata import Edges, choose, open_circles
 from new_enemy_tools.importing.taken import Taken
 from new_enemy_tools.importing.wildcards import Wildcards
@@ -58,6 +58,12 @@ class GoesOn:
         self.service, self.file, self.before, self.state = service, file, before, state
         self.chain: Optional[list[Any]] = None if before is None else before.chain
         self.left: Optional[Left] = None
+
+
+def _kept_in(batch: bytes) -> Union[Kept, list[tuple[Any, ...]]]:
+    """What a batch of kept lines has: a block, or rows."""
+    found = marshal.loads(batch)
+    return Kept(*found) if isinstance(found, tuple) else found
 
 
 class Core:
@@ -206,7 +212,7 @@ class Core:
             self.writer.write(commit, event)
         return commit
 
-    def _stream(self, lines: Lines) -> Iterable[Union[Checks, Event, tuple[Any, ...]]]:
+    def _stream(self, lines: Lines) -> Iterable[Union[Packed, Event, tuple[Any, ...]]]:
         """Everything behind the base state, in order. Entries are rows, or what has a row's fields, or many together."""
         facts = lines.facts
         is_in_order = facts.is_sequenced and facts.is_rising and facts.last_base < 0
@@ -239,17 +245,18 @@ class Core:
         doubts = self._doubts()
         doubts.spread(self._stored())
         for batch in self.taken.items.batches():
-            found = checks_of(batch)
+            found = _kept_in(batch)
             labels = {label for _, _, label in refusals.versions}
-            if isinstance(found, Checks) and labels.isdisjoint(look[4] for look in found.looks) and not doubts.has_any(found):
-                others = [(at, users, row) for at, users, row in ((*one[:2], self._kept_row(one[2], doubts)) for one in found.others) if row]
-                yield batch if others == found.others else marshal.dumps(tuple(found._replace(others=others)))
-                continue
-            if isinstance(found, Checks):
-                rows = found._replace(users=[self.ids.rows[number - 1][1:] for number in found.users]).rows()
-            else:
-                rows = iter(found)
+            if isinstance(found, Kept) and labels.isdisjoint(look[4] for look in found.checks.looks) and not doubts.has_any(found.checks):
+                if not any(self._may_change(row, doubts) for _, row in found.among(self._is_end, self.writer.commit_of)):
+                    yield batch
+                    continue
+            rows = list(found.rows(self._is_end, self.writer.commit_of) if isinstance(found, Kept) else found)
             yield marshal.dumps([row for row in (self._kept_row(one, doubts) for one in rows) if row])
+
+    def _is_end(self, revision: int) -> bool:
+        """Whether a commit ends at a revision; each that is named is one at which one does."""
+        return revision in self.taken.wanted
 
     def _stored(self) -> Iterable[Tuple]:
         """The tuples of usersets ever, by the names of the service; of the days before those of the state."""
@@ -267,6 +274,12 @@ class Core:
         """What the import of the next day goes on from, when all lines are written."""
         left = None if self.goes_on is None else self.goes_on.left
         return None if left is None else going_on.with_left_out(left, self.refusals, self.taken)
+
+    def _may_change(self, row: tuple[Any, ...], doubts: Doubts) -> bool:
+        """Whether a row is perhaps not kept as it is."""
+        if row[0] not in CHECKS:
+            return bool(self.circular) and row[0] == "commit"
+        return doubts.has(Userset(*row[3][:3])) or row[0] == "check" and row[8] is not None
 
     def _kept_row(self, row: tuple[Any, ...], doubts: Doubts) -> Optional[tuple[Any, ...]]:
         """A row as it is kept; None of a check that is not audited."""
@@ -287,6 +300,7 @@ class Core:
         if (head or self._before is not None) and not self.taken.has_between:
             # What the first line says is not for the processes that make the others.
             first, shown.mark = shown.mark, ""
+            self.ids.is_closed = True
             for piece, counts in shared(partial(self._piece, shown), self._kept(), jobs):
                 self.counts.merge(counts)
                 self.progress.step("wrote %s events", self.counts.count)
@@ -294,6 +308,7 @@ class Core:
                     line, _, rest = piece.lines.partition(b"\n")
                     piece, first = Piece(b"%s\n%s" % (with_mark(line, first), rest)), ""
                 yield piece
+            self.ids.is_closed = False
             return
         self.taken.states.take_rules(shown.declarations(self.declared))
         self.taken.states.revisions.sort()
@@ -302,27 +317,28 @@ class Core:
             yield Piece("".join(some).encode())
 
     def _piece(self, shown: Shown, batch: bytes) -> tuple[Piece, Counts]:
-        counts, found = Counts(), checks_of(batch)
-        if isinstance(found, Checks):
-            texts, snapshots = self._checks_texts(found, shown, counts)
+        counts, found = Counts(), _kept_in(batch)
+        if isinstance(found, Kept):
+            texts, snapshots = self._block_texts(found, shown, counts)
         else:
             texts, snapshots = list(self._texts(found, shown, counts)), None
         lines = "".join(texts).encode()
         return Piece(lines, None if self.look is None else self.look(lines, snapshots)), counts
 
-    def _checks_texts(self, checks: Checks, shown: Shown, counts: Counts) -> tuple[list[str], list[int]]:
+    def _block_texts(self, kept: Kept, shown: Shown, counts: Counts) -> tuple[list[str], list[int]]:
         """The lines of many checks, and of what stands among them; and of each line the snapshot, -1 where it is none of many checks."""
-        made, ats, at = shown.checks(checks), shown.snapshots(checks), 0
+        checks = kept.checks
+        made, ats, done = shown.checks(checks), shown.snapshots(checks), 0
         counts.has_token |= any(look[3] is not None for look in checks.looks)
         counts.has_named |= any(look[4] is not None for look in checks.looks)
         counts.take_times(checks.times)
         texts: list[str] = []
         snapshots: list[int] = []
-        for place, _, row in (*checks.others, (len(made), 0, None)):
-            counts.checks += place - at
-            texts += made[at:place]
-            snapshots += ats[at:place]
-            at = place
+        for at, row in chain(kept.among(self._is_end, self.writer.commit_of), ((len(made), None),)):
+            counts.checks += at - done
+            texts += made[done:at]
+            snapshots += ats[done:at]
+            done = at
             if row:
                 texts += self._lines(row, shown, counts)
                 snapshots += [-1] * (len(texts) - len(snapshots))

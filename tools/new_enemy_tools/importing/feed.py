@@ -1,20 +1,23 @@
 """OpenFGA's changes feed: revisions are places in it, counted from 1 behind the base state, and timestamps are labels."""
 from bisect import bisect_right
+from functools import cached_property
 from itertools import accumulate
-from typing import Any, Iterable, Iterator, NamedTuple, Optional, Union, cast
+from typing import Any, Callable, Iterable, Iterator, NamedTuple, Optional, Union, cast
 
 from new_enemy_tools.importing.causes import NO_ONE_SNAPSHOT, OTHER_MODEL
-from new_enemy_tools.importing.checks import Checks, Row
+from new_enemy_tools.importing.checks import Row
 from new_enemy_tools.importing.events import Entry, Event, Relationship, is_whole
 from new_enemy_tools.importing.models import BEFORE, Given, Models, OtherModel, TwoModels
 from new_enemy_tools.importing.order import ordered
+from new_enemy_tools.importing.packed import Index, Odd, Packed
 from new_enemy_tools.importing.reading import Bad
 from new_enemy_tools.importing.refusals import Refusals
 from new_enemy_tools.importing.spool import CHECKS, Lines, WriteRow, row_of
 from new_enemy_tools.importing.times import nanoseconds
 
 NOT_TAKEN = "tuple that the model does not take"
-
+# The places of so many moments are known at once.
+MOST = 1 << 15
 
 NO_SNAPSHOT = ("the check has none of `snapshot` and `snapshot_between`, and OpenFGA does not say which state it looked at: run `ne record`, "
                "or add one of them to each line")
@@ -75,11 +78,16 @@ class Feed:
         self.times = times
         self.sorted = sorted(times)
         self.highest: list[int] = list(accumulate(times, max))
-        self.earliest: dict[int, int] = {}
-        self.latest: dict[int, int] = {}
-        for place, time in enumerate(times, 1):
-            self.earliest.setdefault(time, place)
-            self.latest[time] = place
+
+    @cached_property
+    def earliest(self) -> dict[int, int]:
+        """The first place of each time."""
+        return dict(zip(reversed(self.times), range(len(self.times), 0, -1)))
+
+    @cached_property
+    def latest(self) -> dict[int, int]:
+        """The last place of each time."""
+        return dict(zip(self.times, range(1, len(self.times) + 1)))
 
     def place(self, moment: Moment, what: str) -> int:
         """The one place of a moment, -1 where it lies before the base state; raises Bad."""
@@ -113,6 +121,7 @@ class Placing:
 
     def __init__(self, feed: Feed, models: Models, refusals: Refusals):
         self.feed, self.models, self.refusals = feed, models, refusals
+        self.known: dict[Row, int] = {}
 
     def check(self, entry: Entry) -> Optional[Entry]:
         """A check with its numbers; None where it is left out or refused."""
@@ -151,21 +160,37 @@ class Placing:
             found += [(*one[:2], name, *one[3:5], user_relation) for name, user_relation in names]
         return found
 
-    def looks(self, checks: Checks) -> Optional[list[Row]]:
-        """The looks of checks with their numbers; None where each has to be looked at by itself."""
-        known: dict[Row, Row] = {}
-        if not self.models.is_plain:
+    def block(self, given: Packed, places: list[Optional[int]]) -> Optional[Packed]:
+        """A block with numbers, whose rows that are taken by themselves have none yet; None where each line has to be looked at by itself."""
+        index = given.index
+        first = places[0] if places else 0
+        # By their sequences changes may stand in another order than their lines.
+        if not self.models.is_plain or first is None or places != list(range(first, first + len(places))) or any(
+                self.models.takes((of, relation, user_type, None)) != [(relation, None)] for of, relation, user_type in index.keys):
             return None
+        numbers: dict[Row, tuple[int, Optional[int]]] = {}
         try:
-            for look in checks.looks:
-                asked = look[5]
-                if asked not in known:
-                    known[asked] = _numbers(Asked(*asked), self.feed)
-                    self.models.name_at("", asked[2], known[asked][0], known[asked][0])
+            for asked in index.asked:
+                moments, token, model = asked
+                if len(moments) > 1:
+                    return None
+                snapshot = self._place(moments[0], "snapshot")
+                self.models.name_at("", model, snapshot, snapshot)
+                numbers[asked] = snapshot, None if token is None else max(self._place(token, "token"), 0)
         except (OtherModel, TwoModels, Bad):
             return None
-        return [(reply, known[asked][0], shown, token if known[asked][2] is None else known[asked][2], version, None)
-                for reply, _, shown, token, version, asked in checks.looks]
+        named = {one for numbered in numbers.values() for one in numbered if one is not None}
+        return Packed(index._replace(lowest=min((snapshot for snapshot, _ in numbers.values()), default=None), revisions=list(named), asked=[],
+                                     writes=list(range(first, first + len(places))), is_rising=True), *given[1:3], first, numbers)
+
+    def _place(self, moment: Row, what: str) -> int:
+        """The place of a moment; those of the last ones are known."""
+        found = self.known.get(moment)
+        if found is None:
+            if len(self.known) >= MOST:
+                self.known.clear()
+            found = self.known[moment] = self.feed.place(Moment(*moment), what)
+        return found
 
     def doubts(self) -> None:
         """What is in doubt of a relation is so for each model."""
@@ -175,38 +200,64 @@ class Placing:
 
 def placed(lines: Lines, base: Moment, given: Given, skew: Optional[int], refusals: Refusals) -> Lines:
     """The lines of a trace for those of a log with these models; those that have a place."""
-    feed, models, numbers = _changes(lines, base, given, skew, refusals)
+    feed, models, places = _changes(lines, base, given, skew, refusals)
     for model in models.used:
         if model in given.apart and model not in models.in_force:
             refusals.merge(given.apart[model])
-    placing, made = Placing(feed, models, refusals), Lines()
+    placing, made, at = Placing(feed, models, refusals), Lines(), 0
     placing.doubts()
     made.add(models.rules())
 
-    def numbered(row: Row) -> Optional[Row]:
+    def numbered(row: Row, place: Optional[int]) -> Optional[Row]:
         if row[0] in CHECKS:
             kept = placing.check(Entry._make(row))
             return None if kept is None else row_of(kept)
-        place = 0 if row[5] else next(numbers)
         if place is None:
             refusals.pass_over("change that was read twice")
             return None
         return tuple(placing.write(WriteRow._make(row), place))
 
     for found in lines.stream():
-        looks = placing.looks(found) if isinstance(found, Checks) else None
-        if isinstance(found, Checks) and looks is not None:
-            made.add_checks(found._replace(looks=looks), numbered)
-            continue
-        for line in found.rows() if isinstance(found, Checks) else (found,):
-            row = None if isinstance(line, Event) and line.kind == "rules" else numbered(row_of(line) if isinstance(line, Event) else line)
+        if isinstance(found, Packed):
+            mine, at = places[at:at + len(found.index.writes)], at + len(found.index.writes)
+            _add_block(found, placing.block(found, mine) if skew is None and not lines.facts.is_sequenced else None, mine, numbered, made)
+        elif not isinstance(found, Event) or found.kind != "rules":
+            line = row_of(found) if isinstance(found, Event) else found
+            row = numbered(line, places[at] if is_change(line) else 0)
+            at += is_change(line)
             if row is not None:
                 made.add_row(row)
     return made
 
 
+def is_change(row: Row) -> bool:
+    """Whether a row is a change of the feed, and no base state."""
+    return row[0] == "write" and not row[5]
+
+
+def _add_block(given: Packed, block: Optional[Packed], places: list[Optional[int]], numbered: Callable[[Row, Optional[int]], Optional[Row]],
+               made: Lines) -> None:
+    """Adds a block as it was placed, or else line by line; also where a row of it is left out, so that those beside it stand together."""
+    done: dict[int, Optional[Row]] = {}
+    if block is not None:
+        odd, writes = list[Odd](), 0
+        for one in given.index.odd:
+            row = done[id(one.row)] = numbered(one.row, places[one.writes + writes] if is_change(one.row) else 0)
+            writes += is_change(one.row)
+            odd += [] if row is None else [one._replace(row=row)]
+        if len(odd) == len(given.index.odd):
+            made.add_packed(block._replace(index=block.index._replace(odd=odd)))
+            return
+    next_place = iter(places)
+    for row in given.rows():
+        place = next(next_place) if is_change(row) else 0
+        kept = done[id(row)] if id(row) in done else numbered(row, place)
+        if kept is not None:
+            made.add_row(kept)
+
+
 def _changes(lines: Lines, base: Moment, given: Given, skew: Optional[int],
-             refusals: Refusals) -> tuple[Feed, Models, Iterator[Optional[int]]]:
+             refusals: Refusals) -> tuple[Feed, Models, list[Optional[int]]]:
     """The feed and the models of a log, and the place of each change in the order of its lines; none for one that was read twice."""
     def changes() -> Iterator[Union[Event, WriteRow]]:
         return (event for event in lines.events() if event.revision is not None and not event.base)
@@ -216,28 +267,48 @@ def _changes(lines: Lines, base: Moment, given: Given, skew: Optional[int],
     # What is wrong with the order is refused once, where all lines are put into it.
     # Rows of writes have the fields that order them.
     in_order: Iterable[Any] = ordered(cast("list[Event]", as_read), skew, Refusals()) if are_sorted else changes()
-    repeated = Repeated(event.revision for event in (in_order if are_sorted else changes()) if event.kind != "rules")
+    repeated = Repeated(event.revision for event in in_order if event.kind != "rules") if are_sorted else Repeated(_times(lines))
     starts = [(BEFORE, model) for model in range(given.first)]
     times: list[int] = []
     places: list[Optional[int]] = []
     by_event: dict[int, Optional[int]] = {}
-    for event in in_order:
-        if event.kind == "rules":
-            # By times of several clocks it is not known where a model begins.
-            starts.append((BEFORE if skew else len(times), event.asked[0]))
+    for found in in_order if are_sorted else lines.stream():
+        if isinstance(found, Packed) and (base.time is None or min(found.index.writes, default=base.time) > base.time) and repeated.take(found.index):
+            places += range(len(times) + 1, len(times) + len(found.index.writes) + 1)
+            times += found.index.writes
             continue
-        if base.time is not None and event.revision <= base.time:
-            refusals.refuse(event.file, event.line, "its revision %s is not later than that of the base state" % event.shown)
-        is_again = repeated.has(event)
-        if not is_again:
-            times.append(event.revision)
-        if are_sorted:
-            by_event[id(event)] = None if is_again else len(times)
-        else:
-            places.append(None if is_again else len(times))
+        for event in _changes_in(found):
+            if event.kind == "rules":
+                # By times of several clocks it is not known where a model begins.
+                starts.append((BEFORE if skew else len(times), event.asked[0]))
+                continue
+            if base.time is not None and event.revision <= base.time:
+                refusals.refuse(event.file, event.line, "its revision %s is not later than that of the base state" % event.shown)
+            is_again = repeated.has(event)
+            if not is_again:
+                times.append(event.revision)
+            if are_sorted:
+                by_event[id(event)] = None if is_again else len(times)
+            else:
+                places.append(None if is_again else len(times))
     if are_sorted:
         places = [by_event.get(id(event), 0) for event in as_read if event.kind != "rules"]
-    return Feed(base, times), Models(given.models, starts, _asked(lines) if len(given.models) > 1 else ()), iter(places)
+    return Feed(base, times), Models(given.models, starts, _asked(lines) if len(given.models) > 1 else ()), places
+
+
+def _changes_in(found: Any) -> Iterator[Any]:
+    """The changes of a block or of a line, and the models that come into force."""
+    rows = (WriteRow._make(row) for _, row in found.among() if row[0] == "write") if isinstance(found, Packed) else (found,)
+    return (row for row in rows if isinstance(row, (Event, WriteRow)) and row.revision is not None and not row.base)
+
+
+def _times(lines: Lines) -> Iterator[int]:
+    """The times of all changes, as they stand."""
+    for found in lines.stream():
+        if isinstance(found, Packed):
+            yield from found.index.writes
+        else:
+            yield from (event.revision for event in _changes_in(found) if event.kind != "rules")
 
 
 class Repeated:
@@ -259,11 +330,23 @@ class Repeated:
         # of the changes that stand together, each tuple with whether it is stored
         self.touched: dict[Row, bool] = {}
 
+    def take(self, index: Index) -> bool:
+        """Takes the changes of a block, the next in order, where none was there before; False where each has to be looked at."""
+        if not index.writes or not index.is_once or index.writes[0] == self.time or not self.apart.keys().isdisjoint(index.writes):
+            return False
+        self._leave()
+        self.time, self.touched = index.writes[-1], dict(index.touched)
+        return True
+
+    def _leave(self) -> None:
+        """Notes what stood together."""
+        if self.time in self.apart:
+            self.apart[self.time].update((live, given) for given, live in self.touched.items())
+
     def has(self, event: Any) -> bool:
         """Whether a change, the next in order, was there before."""
         if event.revision != self.time:
-            if self.time in self.apart:
-                self.apart[self.time].update((live, given) for given, live in self.touched.items())
+            self._leave()
             self.time, self.touched = event.revision, {}
         is_again = False
         for live, listed in ((True, event.add), (False, event.remove)):
@@ -276,11 +359,9 @@ class Repeated:
 def _asked(lines: Lines) -> Iterator[Optional[str]]:
     """The models that checks name; of many together once."""
     for found in lines.stream():
-        rows: list[Any] = [found]
-        if isinstance(found, Checks):
-            yield from (look[5][2] for look in found.looks if look[5])
-            rows = [row for _, _, row in found.others]
-        for row in rows:
+        if isinstance(found, Packed):
+            yield from (asked[2] for asked in found.index.asked)
+        for row in (odd.row for odd in found.index.odd) if isinstance(found, Packed) else (found,):
             if isinstance(row, tuple) and row[0] in CHECKS and row[11]:
                 yield row[11][2]
 

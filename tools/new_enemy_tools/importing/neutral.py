@@ -2,11 +2,11 @@
 from functools import partial
 from typing import Iterator, Union
 
-from new_enemy_tools.ids import Ids
 from new_enemy_tools.importing import located
 from new_enemy_tools.importing.block import Reader, Usual, When
 from new_enemy_tools.importing.checks import Look
 from new_enemy_tools.importing.events import Event, Line, read_events
+from new_enemy_tools.importing.packed import Indexer
 from new_enemy_tools.importing.refusals import Refusals
 from new_enemy_tools.importing.shapes import GOAL, ID, LABEL, REPLY, TEXT, TIME, USER_RELATION, WHOLE, Field, Form, Said, field, form, needed
 from new_enemy_tools.importing.spool import Lines, Read
@@ -47,9 +47,9 @@ USUAL = Usual((CHECK,), (CONTENT,), (WRITE,), look_of, when_of, lambda *_: True)
 class Events:
     """The events of a log."""
 
-    def __init__(self, path: str, refusals: Refusals, ids: Ids):
+    def __init__(self, path: str, refusals: Refusals):
         self.path, self.refusals = path, refusals
-        self.reader = Reader(path, USUAL, ids.kept_users)
+        self.reader = Reader(path, USUAL, Indexer())
 
     def block(self, source: located.Source, place: located.Place) -> Union[tuple[Read, Refusals], located.Place]:
         """What a process makes of a block without rules."""
@@ -75,7 +75,7 @@ def gather_events(path: str, lines: Lines, jobs: int, refusals: Refusals) -> Ite
             lines.add(line)
             yield lines.facts.count
         return
-    events = Events(path, refusals, lines.ids)
+    events = Events(path, refusals)
     for found in shared(partial(events.block, source), (place for place, _ in source.placed()), jobs):
         if isinstance(found, located.Place):
             for piece in events.pieces(source.block(found), refusals):

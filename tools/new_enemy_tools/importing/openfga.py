@@ -31,6 +31,8 @@ ASKS_FOR_NEWEST = {json.dumps(one).encode(): asks for one, asks in CONSISTENCY.i
 # Where a Write says what becomes of tuples that are there already, or are not; and what it says where it makes all its changes or none.
 PASSES_OVER = (("writes", "on_duplicate"), ("deletes", "on_missing"))
 IN_FULL = (None, "", "error")
+MISSING = ("these changes go on from a `continuation_token` that no page of the log gives: a page of changes is missing; give all pages from the "
+           "first on, or from the base state on")
 REWRITES = ("this", "computedUserset", "tupleToUserset", "union", "intersection", "difference")
 
 MOMENT = b'(?:%s|"(%s+)")' % (WHOLE, TEXT)
@@ -252,6 +254,7 @@ class OpenFgaLog(Log):
     DECISIONS = frozenset(("Check", "BatchCheck", "ListObjects", "StreamedListObjects", "ListUsers"))
     WRITES = ("Write",)
     CALL_KNOWN = "other call (Write)"
+    HAS_PLACES = True
     PARTIAL = ("type",)
     GIVE_CHANGES = ("give the changes as ReadChanges answers them, or each line of Write its `time`, of which none may pass over what is there "
                     "already")
@@ -298,6 +301,7 @@ class OpenFgaLog(Log):
 
     def placed(self, lines: Lines, skew: Optional[int]) -> Lines:
         self._refuse_stores()
+        self._refuse_missing_pages(lines, skew is not None or lines.facts.is_sequenced)
         self.refuse_unseen(lines)
         # Of a call the service does not say which changes are its; where the log has any, it has all.
         lines = self.with_calls(lines, lambda row: None)
@@ -334,6 +338,34 @@ class OpenFgaLog(Log):
     def is_write(self, value: object) -> bool:
         return isinstance(get(value, "changes"), list) or get(value, "operation") is not None or (
             get(value, "tuple_key") is not None and get(value, "timestamp") is not None)
+
+    def refuse_partial(self, request: object, changes: object, path: str, line: int) -> None:
+        """Of a page that begins at a time it is known what was before where the base state has that; a page behind another one begins there."""
+        super().refuse_partial(request, changes, path, line)
+        since, behind, ends = get(request, "start_time"), get(request, "continuation_token") or "", get(changes, "continuation_token") or ""
+        if not isinstance(behind, str) or not isinstance(ends, str):
+            raise Bad("a `continuation_token` is no text")
+        if request is not None and isinstance(get(changes, "changes"), list):
+            self.refusals.pages.append((hash(behind) if behind else None, hash(ends), len(get(changes, "changes")), path, line))
+        if not since or behind:
+            return
+        begins, base = nanoseconds(since), self.base_at and self.base_at.time
+        if begins is None or base is None or begins > base:
+            raise Bad("the request of these changes has a `start_time`, and the log does not have those before: give all changes, or a base state "
+                      "of that time")
+
+    def _refuse_missing_pages(self, lines: Lines, is_ordered: bool) -> None:
+        """Each page begins behind one that the log has, which stands before it where stamps give no order; the first may where the base state ends.
+        Where some changes have no request, a page may begin behind these."""
+        pages = self.refusals.pages
+        if not pages or sum(count for _, _, count, _, _ in pages) != sum(1 for _ in lines.writes()):
+            return
+        ends = {given for behind, given, *_ in pages if given != behind} if is_ordered else set()
+        first = pages[0][0] if self.base_at is not None else None
+        for behind, given, _, path, line in pages:
+            if behind is not None and behind not in ends and behind != first:
+                self.refusals.refuse(path, line, MISSING)
+            ends.add(given)
 
     def writes(self, value: dict[str, Any], stamp: Stamp, path: str, line: int) -> Iterator[Event]:
         page = get(value, "changes")

@@ -4,10 +4,11 @@ Each becomes a line with a `request` and a `response`, as a recorder writes it. 
 their public sources.
 """
 from datetime import datetime, timezone
-from typing import Any, Iterable, NamedTuple, Optional
+from typing import Any, Iterable, Iterator, NamedTuple, Optional
 
 from new_enemy_tools.importing.reading import Bad, get
 from new_enemy_tools.importing.times import nanoseconds
+from new_enemy_tools.keys import LONGEST, Unread
 
 REQUEST, RESPONSE = "grpc.request.content", "grpc.response.content"
 FINISHED = "finished call"
@@ -17,18 +18,23 @@ REQUEST_ID = ("requestID", "requestId", "request_id")
 OWN = "line of the service's own log"
 UNTOLD = "the line of this call has no request and no response: run `ne record`, or let the server log both"
 HEALTH = "Health"
+# The keys that a recorder adds to what a server prints of a check; and those that are none of them with a slip, as far as they were met.
+ADDED = frozenset(("version", "content", "newest", "token", "snapshot", "snapshot_between"))
+FINE = set(ADDED)
+MOST_FINE = 1 << 12
 # So many calls that were answered are known until a line says that they ended.
 ANSWERED = 10_000
 
 
 def unwrapped(value: Any, keys: Iterable[str]) -> Any:
-    """The call that a printed line tells, with those of the recorder's keys that it has; any other line as it is."""
+    """The call that a printed line tells, with those of the recorder's keys that it has; any other line as it is. Raises Bad."""
     if not isinstance(value, dict):
         return value
     data = value.get("data")
-    if "specversion" in value and isinstance(data, dict):
+    if _is_event(value):
         found = {key: get(data, key) for key in ("request", "response", "error", "status")}
-        return _filled({**found, "time": value.get("time"), "method": value.get("type")})
+        added = both(added_in(data), added_in(value), "the event and its `data`")
+        return _filled({**found, "time": value.get("time"), "method": value.get("type"), **added})
     if "raw_request" not in value and not isinstance(value.get("grpc_method"), str):
         return value
     if _is_health(value.get("grpc_service")):
@@ -37,6 +43,47 @@ def unwrapped(value: Any, keys: Iterable[str]) -> Any:
     found = {"request": value.get("raw_request"), "response": value.get("raw_response"), "error": value.get("error"),
              "method": value.get("grpc_method"), "status": {"code": code} if code else None, "time": time_of(value.get("timestamp"))}
     return _filled({**found, **given})
+
+
+def _is_event(value: dict[str, Any]) -> bool:
+    return "specversion" in value and isinstance(value.get("data"), dict)
+
+
+def added_in(value: dict[str, Any]) -> dict[str, Any]:
+    """What a recorder says of a check in a line that a server printed."""
+    return {key: value[key] for key in ADDED if value.get(key) is not None}
+
+
+def both(one: dict[str, Any], other: dict[str, Any], what: str) -> dict[str, Any]:
+    """What two parts of a line say together; raises Bad where they do not say the same."""
+    for key in one.keys() & other.keys():
+        if one[key] != other[key]:
+            raise Bad("%s have each a `%s`, and they are not the same" % (what, key))
+    return {**one, **other}
+
+
+def mistyped(value: Any) -> Iterator[Unread]:
+    """Keys of a printed line that are no keys of a server, but a recorder's with a slip: nobody would read them."""
+    if not isinstance(value, dict):
+        return
+    data = value["data"] if _is_event(value) else {}
+    if not data and not Joining.takes(value) and "raw_request" not in value:
+        return
+    for part in (value, data):
+        for key in () if part.keys() <= FINE else part:
+            if len(key) > LONGEST or key in FINE:
+                continue
+            if _is_slip(key):
+                yield Unread(key, ADDED)
+            elif len(FINE) < MOST_FINE:
+                FINE.add(key)
+
+
+def _is_slip(key: str) -> bool:
+    """Whether a key has the letters of one that a recorder adds in another order or case, or all but one of them. Those of servers are only
+    like them, as `context` is like `content`."""
+    folded = key.lower()
+    return any(sorted(folded) == sorted(one) or any(folded == one[:at] + one[at + 1:] for at in range(len(one))) for one in ADDED)
 
 
 def _is_health(service: object) -> bool:
@@ -103,7 +150,8 @@ class Joining:
     """Requests that wait for their responses, by their ids: as many as are under way at once."""
 
     def __init__(self) -> None:
-        self.waiting: dict[str, tuple[Any, int]] = {}
+        # the requests, each with its line and with what a recorder says there
+        self.waiting: dict[str, tuple[Any, int, dict[str, Any]]] = {}
         self.answered: dict[str, None] = {}
         # what the lines did, where that is noted
         self.steps: Optional[list[Step]] = None
@@ -126,18 +174,23 @@ class Joining:
         if found is None:
             raise Bad("the line has no `requestID`, which joins a request and its response")
         if REQUEST in value:
-            self.waiting[found] = plain_of(value[REQUEST]), line
+            self.wait(found, value, line)
             return None
         if found not in self.waiting:
             raise Bad("the log has no request of the response with the `requestID` %s" % found[:80])
-        request, _ = self.waiting[found]
+        request, _, added = self.waiting[found]
         self.answered[found] = None
         if len(self.answered) > ANSWERED:
             del self.answered[next(iter(self.answered))]
         if not is_stream(value):
             del self.waiting[found]
         given = {key: value[key] for key in keys if key in value and key not in ("time", "error", "method")}
+        given |= both(added, added_in(given), "the lines of the request and of the response")
         return _filled({**told, "request": request, "response": plain_of(value[RESPONSE]), **given})
+
+    def wait(self, found: str, value: dict[str, Any], line: int) -> None:
+        """Keeps the request of a line."""
+        self.waiting[found] = plain_of(value[REQUEST]), line, added_in(value)
 
     def go_on(self, value: Any, line: int) -> None:
         """Goes on behind a line whose call is not asked for."""
@@ -149,11 +202,11 @@ class Joining:
 
     def left(self) -> list[int]:
         """The lines of requests that no line answered."""
-        return [line for found, (_, line) in self.waiting.items() if found not in self.answered]
+        return [line for found, (_, line, _) in self.waiting.items() if found not in self.answered]
 
     def _ended(self, found: Optional[str], code: object, told: dict[str, Any]) -> Optional[dict[str, Any]]:
         """What the end of a call tells: that it failed, or, of one that no line told, that there was such a call."""
-        request, _ = self.waiting.pop(found or "", (None, 0))
+        request, *_ = self.waiting.pop(found or "", (None, 0, {}))
         is_answered = found in self.answered
         if found is not None:
             self.answered.pop(found, None)

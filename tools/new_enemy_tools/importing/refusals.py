@@ -50,6 +50,9 @@ class Refusals:
         self.deleted: list[tuple[Optional[int], str, int]] = []
         # of each call that wrote, and whose line does not say all of that, the first line
         self.unseen: dict[str, tuple[str, int]] = {}
+        # of each page of changes that was asked for, in short, the token that it begins behind, if any, and the one that it ends with; how many
+        # changes it has, and its line
+        self.pages: list[tuple[Optional[int], int, int, str, int]] = []
         # the stores that calls name, each with the first line that does
         self.stores: dict[str, tuple[str, int]] = {}
         self.doubts: list[tuple[str, Optional[str], str]] = []
@@ -73,6 +76,7 @@ class Refusals:
         self._reach_back(other.gap_since)
         self.updated += other.updated
         self.deleted += other.deleted
+        self.pages += other.pages
         for call, place in other.unseen.items():
             self.unseen.setdefault(call, place)
         for store, place in other.stores.items():

@@ -9,6 +9,7 @@ from new_enemy_tools.importing.called import with_calls
 from new_enemy_tools.importing.carried import Blocks, Carried, Otherwise, is_as_read
 from new_enemy_tools.importing.checks import NEWEST, Look, Row
 from new_enemy_tools.importing.events import EVERY, STAMP, Entry, Event, Line, Relationship, Stamp, newest_of, sequence_of, stamp_of
+from new_enemy_tools.importing.packed import Indexer
 from new_enemy_tools.importing.reading import Bad, get
 from new_enemy_tools.importing.refusals import Refusals
 from new_enemy_tools.importing.shapes import Form, Said
@@ -43,6 +44,12 @@ class ServiceRules(NamedTuple):
     takes: dict[tuple[str, str], set[tuple[str, Optional[str]]]]
     # other rules that are known, of which it is not said when they were in force
     others: "tuple[ServiceRules, ...]" = ()
+
+
+def tuplesets_of(event: Event) -> set[tuple[str, str]]:
+    """The relations, by their types, from whose users rules go on."""
+    return {(name, place.names[0]) for name, relations in event.namespaces.items() for relation in relations
+            for place in places(relation.rewrite) if place.form == "tuple_to"}
 
 
 def refuse_wild_tuplesets(event: Event, takes: dict[tuple[str, str], set[tuple[str, Optional[str]]]], refusals: Refusals) -> None:
@@ -101,6 +108,8 @@ class Log:
     # whether the answers of calls that write have revisions
     HAS_REVISIONS = False
     CALL_KNOWN = GIVE_CHANGES = ""
+    # whether revisions are places in a feed, of which several may be one commit
+    HAS_PLACES = False
     # what a request has that asks for some of the changes alone
     PARTIAL: tuple[str, ...] = ()
     # what stands in each line that says of new rules
@@ -183,7 +192,7 @@ class Log:
         """Adds the lines of a log; how many there are, now and then. New rules matter to all behind them, which one process reads."""
         checks, contents = zip((self.CHECK, self.CONTENT_CHECK), *self.LOGGED)
         usual = Usual(checks, contents, (self.WRITE,), self.look_of, self.when_of, self._takes, self.relation_of)
-        source, reader = located.Source(path), Reader(path, usual, lines.ids.kept_users)
+        source, reader = located.Source(path), Reader(path, usual, Indexer(tuplesets_of(self.rules.event), self.HAS_PLACES))
         if not source.is_lines():
             for line in self.events(path, source.values(self.refusals)):
                 lines.add(line)
@@ -232,6 +241,8 @@ class Log:
 
     def events(self, path: str, values: Iterable[tuple[int, Any]]) -> Iterator[Line]:
         for line, given in values:
+            for key in printed.mistyped(given):
+                self.refusals.refuse(path, line, key.said())
             try:
                 value = self._told(given, line)
             except Bad as fault:
@@ -253,14 +264,14 @@ class Log:
         if is_check and get(changes, self.DECIDES[0]) is not None:
             yield from self._checks(value, stamp, path, line)
         elif self.is_write(changes):
-            self._refuse_partial(get(value, "request"), changes)
+            self.refuse_partial(get(value, "request"), changes, path, line)
             yield from self.writes(changes, stamp, path, line)
         elif (rules := self.new_rules(value)) is not None:
             yield from self.change(rules, value, stamp, path, line)
         else:
             yield from self._call(value, is_check, stamp, path, line)
 
-    def _refuse_partial(self, request: object, changes: object) -> None:
+    def refuse_partial(self, request: object, changes: object, path: str, line: int) -> None:
         """Of changes that were asked for in part it is not known what stands between them; raises Bad."""
         found = get(changes, "changes") or get(get(changes, "result") or changes, "updates")
         asked = [key for key in self.PARTIAL if get(request, key)] if found else []

@@ -70,11 +70,12 @@ class Shown:
             yield self._marked(value_line({**change, "at": at, **told}))
 
     def checks(self, checks: Checks) -> list[str]:
-        """The lines of many checks, whose users are numbers."""
+        """The lines of many checks."""
         ids = self.ids
         starts = [check_start(ids.name("namespace", of)) for of, _ in checks.pairs]
         relations = [ids.name("relation", relation) for _, relation in checks.pairs]
-        users = list(map(str, checks.users))
+        tables = {of: ids.numbers["user", of] for of in {of for of, _ in checks.users}}
+        users = [str(tables[of][id_text]) for of, id_text in checks.users]
         looks = self._looks([(*look[:3], look[1], *look[4:]) if look[3] == NEWEST else look for look in checks.looks], checks.file)
         pairs = column(checks.pair_of)
         made = check_lines(map(starts.__getitem__, pairs), checks.objects.split("\n"), map(relations.__getitem__, pairs),

@@ -1,11 +1,12 @@
 """What is gone through several times and does not stay in memory: rows of plain values, in a file of their own."""
 import marshal
 import tempfile
-from typing import IO, Callable, Iterable, Iterator, NamedTuple, Optional, Union
+from typing import IO, Iterable, Iterator, NamedTuple, Optional, Union
 
 from new_enemy_tools.ids import Ids
-from new_enemy_tools.importing.checks import NAMES, NEWEST, Checks, Row
+from new_enemy_tools.importing.checks import NEWEST, Row
 from new_enemy_tools.importing.events import EVERY, Entry, Event, Line, Relationship
+from new_enemy_tools.importing.packed import Packed, packed_of
 
 BATCH = 1 << 12
 CHECKS = ("check", "content")
@@ -52,11 +53,6 @@ class Spool:
             yield self.file.read(end - start)
         if self.rows:
             yield marshal.dumps(self.rows)
-
-    def __iter__(self) -> Iterator[Row]:
-        for batch in self.batches():
-            found = checks_of(batch)
-            yield from found.rows() if isinstance(found, Checks) else found
 
 
 class WriteRow(NamedTuple):
@@ -180,10 +176,10 @@ def line_of(row: Row) -> Union[Event, Row]:
     return Event(*fields)
 
 
-def checks_of(data: bytes) -> Union[Checks, list[Row]]:
-    """What a batch has: checks with the lines among them, or rows."""
-    found = marshal.loads(data)
-    return Checks(*found) if isinstance(found, tuple) else found
+def found_in(batch: bytes) -> Union[Packed, list[Row]]:
+    """What a batch of lines has: a block as it was read, or rows."""
+    found = marshal.loads(batch)
+    return packed_of(found) if isinstance(found, tuple) else found
 
 
 class Lines:
@@ -218,24 +214,16 @@ class Lines:
             self.facts.merge(piece.facts)
             self.spool.add_batch(piece.data)
 
-    def add_checks(self, checks: Checks, made_of: Callable[[Row], Optional[Row]]) -> None:
-        """Adds checks and what is made of the rows among them."""
-        facts, others, rows = Facts(), [], 0
-        for place, seen, given in checks.others:
-            row = given if given[0] == NAMES else made_of(given)
-            if row is None:
-                continue
-            others.append((place, seen, row))
-            if row[0] != NAMES:
-                if place:
-                    facts.note_checks(checks.file, checks.first)
-                facts.count = place + rows
-                facts.note(Entry._make(row) if row[0] in CHECKS else WriteRow._make(row))
-                rows += 1
-        if checks.size:
-            facts.note_checks(checks.file, checks.first)
-        facts.count = checks.size + rows
-        self.add_piece(Read(marshal.dumps(tuple(checks._replace(others=others))), facts))
+    def add_packed(self, packed: Packed) -> None:
+        """Adds a block whose revisions were placed."""
+        facts, index = Facts(), packed.index
+        facts.files[index.file] = index.first
+        facts.has_groups = bool(index.plain)
+        facts.is_sequenced = facts.is_rising = False
+        for _, *_, row in index.odd:
+            facts.note(Entry._make(row) if row[0] in CHECKS else WriteRow._make(row))
+        facts.count = index.lines
+        self.add_piece(Read(packed.dumped(), facts))
 
     def __iter__(self) -> Iterator[Line]:
         for line in self.rows():
@@ -243,20 +231,22 @@ class Lines:
 
     def rows(self) -> Iterator[Union[Event, Row]]:
         """As the lines themselves, but checks are plain rows with the fields of an Entry."""
-        return map(self._line, self.spool)
+        for batch in self.spool.batches():
+            found = found_in(batch)
+            yield from map(self._line, found.rows() if isinstance(found, Packed) else found)
 
-    def stream(self, behind: int = -1) -> Iterator[Union[Checks, Event, Row]]:
-        """As `rows`, but many checks together where they were read so, and stand behind a place."""
+    def stream(self, behind: int = -1) -> Iterator[Union[Packed, Event, Row]]:
+        """As `rows`, but many lines together where they were read so, and stand behind a place."""
         place = -1
         for batch in self.spool.batches():
-            found = checks_of(batch)
-            if isinstance(found, Checks) and place >= behind:
+            found = found_in(batch)
+            if isinstance(found, Packed) and place >= behind:
                 yield found
                 continue
-            for place, row in enumerate(found.rows() if isinstance(found, Checks) else found, place + 1):
+            for place, row in enumerate(found.rows() if isinstance(found, Packed) else found, place + 1):
                 yield self._line(row)
 
-    def growing(self, more: Iterator[object]) -> Iterator[Union[Checks, Event, Row]]:
+    def growing(self, more: Iterator[object]) -> Iterator[Union[Packed, Event, Row]]:
         """As `stream`, while `more` adds lines when it is gone through."""
         given = 0
         for _ in more:
@@ -266,9 +256,9 @@ class Lines:
         for batch in self.spool.batches(given):
             yield from self._of_batch(batch)
 
-    def _of_batch(self, batch: bytes) -> Iterator[Union[Checks, Event, Row]]:
-        found = checks_of(batch)
-        if isinstance(found, Checks):
+    def _of_batch(self, batch: bytes) -> Iterator[Union[Packed, Event, Row]]:
+        found = found_in(batch)
+        if isinstance(found, Packed):
             yield found
         else:
             yield from map(self._line, found)
@@ -276,8 +266,8 @@ class Lines:
     def events(self) -> Iterator[Union[Event, WriteRow]]:
         """Those of the lines that are no checks; writes as their rows."""
         for batch in self.spool.batches():
-            found = checks_of(batch)
-            for row in (row for _, _, row in found.others) if isinstance(found, Checks) else found:
+            found = found_in(batch)
+            for row in (row for _, row in found.among()) if isinstance(found, Packed) else found:
                 if row[0] == "write":
                     yield WriteRow._make(row)
                 elif row[0] == "rules":
@@ -290,9 +280,10 @@ class Lines:
     def users(self) -> Iterator[tuple[str, str]]:
         """The users that lines name, by type and id, in the order in which they are named first."""
         for batch in self.spool.batches():
-            found, given = checks_of(batch), 0
-            users = found.users if isinstance(found, Checks) else []
-            for _, seen, row in found.others if isinstance(found, Checks) else ((0, 0, row) for row in found):
+            found, given = found_in(batch), 0
+            checks = found.checks() if isinstance(found, Packed) else None
+            users = checks.users if checks else []
+            for _, seen, row in checks.others if checks else ((0, 0, row) for row in found):
                 yield from users[given:seen]
                 given = seen
                 if row[0] in CHECKS:
@@ -301,15 +292,16 @@ class Lines:
                     yield from (one[3:5] for one in row[10] + row[11] if one[5] is None)
             yield from users[given:]
 
-    def spans(self) -> Iterator[tuple[int, int, Optional[int]]]:
+    def spans(self) -> Iterator[tuple[int, int]]:
         """From where to where the checks looked, and what they demanded; of many together once."""
         for found in self.stream():
-            if isinstance(found, Checks):
-                yield from ((look[1], look[1], None if look[3] == NEWEST else look[3]) for look in found.looks)
-            rows: list[Union[Event, Row]] = [row for _, _, row in found.others] if isinstance(found, Checks) else [found]
-            for row in rows:
+            if isinstance(found, Packed):
+                yield from zip(found.index.revisions, found.index.revisions)
+            for row in (odd.row for odd in found.index.odd) if isinstance(found, Packed) else (found,):
                 if isinstance(row, tuple) and row[0] in CHECKS:
-                    yield row[5] if row[9] is None else row[9], row[5], None if row[7] == NEWEST else row[7]
+                    yield row[5] if row[9] is None else row[9], row[5]
+                    if row[7] not in (None, NEWEST):
+                        yield row[7], row[7]
 
     def _line(self, row: Row) -> Union[Event, Row]:
         return self.rules[row[1]] if row[0] == "rules" else line_of(row)

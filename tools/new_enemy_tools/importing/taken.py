@@ -3,24 +3,22 @@
 What a line of the trace needs is kept in a spool. Of many checks that stand together what they name is taken once.
 """
 import marshal
-from typing import Any, Iterable, Optional, Union
+from typing import Any, Iterable, Optional, Sequence, Union
 
 from new_enemy_tools.edges import Name
 from new_enemy_tools.ids import Ids
 from new_enemy_tools.importing import causes
 from new_enemy_tools.importing.between import Spans, States
-from new_enemy_tools.importing.checks import NAMES, NEWEST, Checks, Other, column
+from new_enemy_tools.importing.checks import NEWEST
 from new_enemy_tools.importing.commits import Commit, Writer
 from new_enemy_tools.importing.declared import Declared
 from new_enemy_tools.importing.events import Entry, Event
+from new_enemy_tools.importing.packed import Index, Packed, Run, Version
 from new_enemy_tools.importing.refusals import Refusals
 from new_enemy_tools.importing.spool import Spool, line_of, row_of
 from new_enemy_tools.progress import Progress
 
 Item = Union[Commit, Event]
-# So many tuples fit on a line of a trace, whatever their names.
-FEW = 16
-
 
 class Taken:
     """What is known of the lines so far."""
@@ -30,9 +28,9 @@ class Taken:
         self.declared, self.writer, self.ids, self.refusals, self.progress = declared, writer, ids, refusals, progress
         self.base_revision, self.has_between = base_revision, has_between
         # of each version its content check, in short, with its file and line
-        self.issued: dict[tuple[str, str, str], tuple[tuple[Any, ...], str, int]] = {}
+        self.issued: dict[Version, tuple[tuple[Any, ...], str, int]] = {}
         # the versions whose labels were saved again at another state
-        self.twice: set[tuple[str, str, str]] = set()
+        self.twice: set[Version] = set()
         # the revisions that are named, each with how many lines of the trace it takes
         self.wanted: dict[int, int] = {}
         self.states = States()
@@ -40,22 +38,21 @@ class Taken:
         self.has_gap = False
         # whether something was stored before the log, and versions may have been saved
         self.may_be_older = may_be_older
-        # of the lines among many checks those that are kept, each with the number of checks before it
-        self.among: Optional[list[Other]] = None
-        self.at = 0
-        # the commit to which a write behind it may belong, or the row of its only write with the texts that it adds and removes
+        # of the rows of a block that are taken by themselves those that are kept, each with its place and the number of checks before it
+        self.among: Optional[list[tuple[int, int, tuple[Any, ...]]]] = None
+        self.at = 0, 0
+        # the commit to which a write behind it may belong
         self.open: Optional[Commit] = None
-        self.single: Optional[tuple[tuple[Any, ...], tuple[list[str], list[str]]]] = None
         self.last = base_revision
         # where the last write stood; none where it is the base state
         self.last_place: Optional[tuple[str, int, Optional[str]]] = None
         self.count = 0
         self.declared_names: set[Name] = set()
 
-    def take_all(self, stream: Iterable[Union[Checks, Event, tuple[Any, ...]]], spans: Spans) -> None:
+    def take_all(self, stream: Iterable[Union[Packed, Event, tuple[Any, ...]]], spans: Spans) -> None:
         for line in stream:
-            if isinstance(line, Checks):
-                self._take_checks(line, spans)
+            if isinstance(line, Packed):
+                self._take_block(line, spans)
             else:
                 self._take(line, spans)
         self._close()
@@ -73,7 +70,6 @@ class Taken:
         if line.base or line.revision is None:
             self.has_gap |= line.kind == "gap"
             return
-        self._reopen(line)
         if self.open and self._goes_on(self.open, line, spans):
             self.last = line.revision
             return
@@ -91,106 +87,80 @@ class Taken:
 
     def _close(self) -> None:
         """Keeps the commit that is open."""
-        if self.single:
-            row, sides = self.single
-            self.wanted[row[3]] = 1
-            self._keep(("commit", row[3], row[4], row[1], row[2], row[8], [sides]))
-            self.single = None
-        elif self.open:
+        if self.open:
             self.keep(self.open)
             self.open = None
 
-    def _take_single(self, row: tuple[Any, ...]) -> bool:
-        """Takes a write of few tuples that is a commit by itself as yet; whether it is one."""
-        revision, group, count = row[3], row[6], len(row[10]) + len(row[11])
-        if row[5] or revision is None or not 0 < count <= FEW or self.last is not None and revision <= self.last:
-            return False
-        if group is not None and group == (self.single[0][6] if self.single else self.open and self.open.event.group):
-            return False
-        sides: tuple[list[str], list[str]] = ([], [])
-        for side, listed in zip(sides, row[10:12]):
-            for given in listed:
-                text = self.writer.text_of(given)
-                if text is None:
-                    return False
-                side.append(text)
-        if len({*sides[0], *sides[1]}) < count:
-            return False
-        self._close()
-        self.last, self.last_place, self.single = revision, (row[1], row[2], row[4]), (row, sides)
-        self.count += 1
-        self.progress.step("ordered %s events", self.count)
-        return True
-
-    def _reopen(self, line: Event) -> None:
-        """Makes the commit of the write that stands by itself, where the next line may belong to it."""
-        if self.single and (self.single[0][3] == line.revision or line.group is not None and self.single[0][6] == line.group):
-            event = line_of(self.single[0])
-            assert isinstance(event, Event)
-            self.single, self.open = None, Commit(event)
-            self.writer.write(self.open, event)
-
-    def _take_checks(self, checks: Checks, spans: Spans) -> None:
-        """Takes what many checks name once for all of them."""
-        if not self._are_plain(checks):
-            for row in checks.rows():
+    def _take_block(self, block: Packed, spans: Spans) -> None:
+        """Takes what many lines name once for all of them."""
+        index = block.index
+        if not self._is_plain(index):
+            for row in block.rows():
                 self._take(line_of(row), spans)
             return
-        for revision in {look[1] for look in checks.looks} | {look[3] for look in checks.looks}:
-            if revision not in (None, NEWEST):
-                self.wanted.setdefault(revision, 1)
-        self.among, self.at = [], 0
-        numbers = checks.numbers or self.ids.known_users(checks.users)
-        new = [place for place, number in enumerate(numbers) if number is None]
-        given = 0
-        for place, seen, row in checks.others:
-            while given < len(new) and new[given] < seen:
-                numbers[new[given]] = self.ids.number("user", *checks.users[new[given]])
-                given += 1
-            if place > self.at:
-                self._pass(place)
-            if row[0] == NAMES:
-                self._is_declared(*row[1:])
-            elif row[0] != "write" or not self._take_single(row):
-                self._take(line_of(row), spans)
-        for place in new[given:]:
-            numbers[place] = self.ids.number("user", *checks.users[place])
-        self._pass(checks.size)
-        self.count += checks.size
-        self.items.add_batch(marshal.dumps(tuple(checks._replace(users=numbers, numbers=[], others=self.among, sequences=b""))))
+        for revision in index.revisions:
+            self.wanted.setdefault(revision, 1)
+        self.among, self.at, behind = [], (0, 0), (0, 0)
+        *names, rest = marshal.loads(block.names)
+        writes = issued = 0
+        for named, (place, at, *before, row) in zip(names, index.odd):
+            self._take_before(block, named, (writes, issued), before, spans)
+            writes, issued = before
+            if (place, at) != behind:
+                self._close()
+            self.at, behind = (place, at), (place + 1, at)
+            self._take(line_of(row), spans)
+        self._take_before(block, rest, (writes, issued), (len(index.plain), len(index.issued)), spans)
+        if behind != (index.rows, index.checks):
+            self._close()
+        self.count += index.lines - len(index.odd)
+        self.items.add_batch(block.kept(self.among))
         self.among = None
 
-    def _are_plain(self, checks: Checks) -> bool:
-        """Whether all checks are of declared relations and none before the base state, and each becomes one line of a trace with rules.
+    def _is_plain(self, index: Index) -> bool:
+        """Whether all lines of a block are of declared relations, behind what stands before it and none before the base state, and each becomes
+        one line of a trace with rules. A check of a version that the log does not know is audited in part."""
+        declared = self.declared
+        return bool(declared.head) and not self.has_between and index.is_rising and all(
+            declared.rules.is_declared(*pair) for pair in index.pairs) and (
+            self.base_revision is None or index.lowest is None or index.lowest >= self.base_revision) and all(
+            key[:2] not in declared.tuplesets for key in index.keys) and (
+            not index.plain or self.last is None or index.writes[index.plain[0]] > self.last) and all(
+            version in self.issued and version not in self.twice for version in index.named) and all(
+            one.version not in self.issued for one in index.issued) and all(
+            row[0] != "content" or (*row[3][:2], row[8]) not in self.issued for *_, row in index.odd)
 
-        A check of a version that the log does not know is audited in part.
-        """
-        if any(look[4] is not None for look in checks.looks) and not self._are_issued(checks):
-            return False
-        return bool(self.declared.head) and not self.has_between and all(
-            self.declared.rules.is_declared(*pair) for pair in checks.pairs) and (
-            self.base_revision is None or all(look[1] >= self.base_revision for look in checks.looks))
+    def _take_before(self, block: Packed, names: list[Run], start: Sequence[int], end: Sequence[int], spans: Spans) -> None:
+        """Takes what is named up to a row, and the plain writes and the saved versions between two places of each."""
+        for run in names:
+            self.ids.add(*run)
+        self._take_writes(block.index, start[0], end[0], spans)
+        self._take_issued(block, start[1], end[1])
 
-    def _are_issued(self, checks: Checks) -> bool:
-        """Whether the versions that checks name were issued before, or are by the lines among them, and none was saved twice."""
-        issued = {(*row[3][:2], row[8]) for _, _, row in checks.others if row[0] == "content"}
-        labels = {place: look[4] for place, look in enumerate(checks.looks) if look[4] is not None}
-        types = [of for of, _ in checks.pairs]
-        named = {(types[pair], thing, labels[look]) for pair, thing, look in zip(
-            column(checks.pair_of), checks.objects.split("\n"), column(checks.look_of)) if look in labels}
-        return all(one in self.issued for one in named - issued) and named.isdisjoint(self.twice) and issued.isdisjoint(self.issued)
+    def _take_writes(self, index: Index, start: int, end: int, spans: Spans) -> None:
+        """Takes plain writes; those of one commit end where some check looks."""
+        if start == end:
+            return
+        self._close()
+        revisions = [index.writes[place] for place in index.plain[start:end]]
+        if index.joined:
+            joined = {number - start for number in index.joined}
+            revisions = [one for number, one in enumerate(revisions, 1) if number not in joined or spans.has(one)]
+        self.wanted.update(dict.fromkeys(revisions, 1))
+        self.last, self.last_place = revisions[-1], (index.file, *index.last)
 
-    def _pass(self, place: int) -> None:
-        """Goes behind so many of the checks."""
-        if place > self.at:
-            self._close()
-            self.at = place
+    def _take_issued(self, block: Packed, start: int, end: int) -> None:
+        for version, goal, snapshot, token, asked, line in block.index.issued[start:end]:
+            if asked is not None and block.numbers is not None:
+                snapshot, demanded = block.numbers[asked]
+                token = token if demanded is None else demanded
+            self.issued[version] = ((tuple(goal), True, snapshot, None, token), block.index.file, line)
 
     def _keep(self, row: tuple[Any, ...]) -> None:
         if self.among is None:
             self.items.add(row)
         else:
-            self.among.append((self.at, 0, row))
+            self.among.append((*self.at, row))
 
     def _goes_on(self, commit: Commit, event: Event, spans: Spans) -> bool:
         """Takes a write into the commit before it, where it belongs there."""
