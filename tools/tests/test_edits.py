@@ -1,9 +1,11 @@
 """What tools/dev/more_edits makes of edits and of what the prover says, with a stand-in of `rt`."""
 import glob
 import os
+import re
 import shutil
 import subprocess
 import sys
+from collections import Counter
 
 from edits.texts import apply, edit_of, functions_of, groups_of
 from edits.verdicts import PROVED, REFUSED, UNREAD, UNTOLD, verdicts
@@ -259,6 +261,22 @@ class Edits(Case):
             folder = os.path.join(TOP, "crates", crate)
             found = edit_of(os.path.join(folder, "more-edits", edit + ".edit"), folder)
             self.assertEqual((it, found.fault, bool(found.functions)), (it, "", True))
+
+    def test_the_page_on_the_gate_counts_the_edits_of_each_crate(self):
+        with open(os.path.join(DEV, "edits", "in_the_gate"), encoding="utf-8") as file:
+            listed = Counter(it.split("/")[0] for it in file.read().splitlines() if not it.startswith("#"))
+        counted = {}
+        for folder in glob.glob(os.path.join(TOP, "crates", "*")):
+            crate = os.path.basename(folder)
+            inside, outside = (len(glob.glob(os.path.join(folder, part, "*.edit"))) for part in ("must-fail", "more-edits"))
+            if inside or outside:
+                counted[crate] = inside, listed[crate], outside - listed[crate]
+        with open(os.path.join(TOP, "docs", "GATE.md"), encoding="utf-8") as file:
+            table = file.read().partition("| Crate | `must-fail/` |")[2].partition("\n\n")[0]
+        rows = re.findall(r"^\| (?:`(\w+)`|\*\*All\*\*) \| (\d*) ?\| (\d*) ?\| (\d*) ?\|$", table, re.M)
+        told = [(name, tuple(int(it or 0) for it in numbers)) for name, *numbers in rows]
+        total = tuple(sum(it) for it in zip(*counted.values()))
+        self.assertEqual(sorted(told), sorted([*counted.items(), ("", total)]))
 
     def built(self):
         """What `rt ci` and ./check leave: the program, of what it was proved, and the library below it."""
