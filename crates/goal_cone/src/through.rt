@@ -24,14 +24,6 @@ use std::alloc::{AllocError, Global};
 use tuple_text::SetRef;
 use userset_index::Numbers;
 
-/// The name of a relation that is read, by its place.
-fn name_at(through: &Through, k: usize) -> Option<&str>
-    ensures { option_map (λ s. s.now) result ≡ slice_get (computed_names through.now) k }
-{
-    let (name, _) = through.computed.get_index(k)?;
-    Some(name.as_str())
-}
-
 /// The relation that is read at a place, where a namespace declares it at a timestamp.
 fn declared_at<'s>(
     rules: &Rules,
@@ -44,7 +36,7 @@ fn declared_at<'s>(
     ensures none { result ≡ None → (c : List ℕ) → slice_get (computed_names through.now) k ≡ Some c
         → rule_at rules.now at namespace.now c ≡ None }
 {
-    let relation = name_at(through, k)?;
+    let relation = through.name(k)?;
     let set = SetRef {
         namespace,
         id: "",

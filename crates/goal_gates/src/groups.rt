@@ -56,10 +56,9 @@ fn reading_at(parts: &[Part], read: Read) -> Option<Reading<'_>> {
 }
 
 fn reading_in(through: &Through, name: usize) -> Option<Reading<'_>> {
-    let (relation, _) = through.computed.get_index(name)?;
     Some(Reading {
         tupleset: through.tupleset.as_str(),
-        relation: relation.as_str(),
+        relation: through.name(name)?,
     })
 }
 

@@ -2,7 +2,8 @@
 use Rattle.std.proofs.Common.{◌≡◌, ℕ, ◌+◌, ◌-◌, ◌<◌, ◌≤◌, nat_le, List, [], ◌∷◌, ◌++◌, map, length, slice_get, position, filter, Bool, true, false, cond, Option, None, Some, option_map, option_and_then, is_some, Bor, string_bytes, refl, sym, ap, ◌∙◌, arith}
 use Rattle.std.proofs.lemmas.Option.{slice_get-map}
 use Rattle.std.proofs.lemmas.Map.Made.{is_some-lookup}
-use Rattle.indexmap.proofs.MapLemmas.{Found-position, some_index}
+use Rattle.names.specs.Names.{place_of}
+use Rattle.names.proofs.NamesLemmas.{stands, stands_nowhere}
 use Rattle.std.specs.Global.{Vec}
 use Rattle.std.specs.Option.{IfSome, option_copied}
 use Rattle.std.specs.Str.{bytes_eq}
@@ -84,8 +85,8 @@ module _ (lines : List Line) (es : List IndexEntry) (changes : ℕ) (ds : List D
   names = sym (names-show_index es) ∙ ap keys_of indexed ∙ names-index_of ds
 
   -- where a name stands
-  pub position_found : (q : List ℕ) → position (bytes_eq q) (namespace_names ds) ≡ position (is_text q) (keys_of es)
-  position_found q = ap (position (bytes_eq q)) (sym names) ∙ position-map (bytes_eq q) string_bytes (keys_of es)
+  pub position_found : (q : List ℕ) → position (bytes_eq q) (namespace_names ds) ≡ place_of q es
+  position_found q = ap (position (bytes_eq q)) (sym names) ∙ position-map (bytes_eq q) string_bytes (keys_of es) ∙ position-map (is_text q) (λ (e : IndexEntry). e.0) es
 
   pub count_found : length es ≡ length (namespace_names ds)
   count_found = sym (length-mapped (λ (e : IndexEntry). e.0) es) ∙ sym (length-mapped string_bytes (keys_of es)) ∙ ap length names
@@ -136,20 +137,21 @@ expression_borrowed None = refl
 expression_borrowed (Some x) = refl
 
 -- the relation of a name stands at the place of the name
-pub expression_placed : (q : List ℕ) (es : List Entry) (i : ℕ) → position (is_text q) (keys_of es) ≡ Some i
+pub expression_placed : (q : List ℕ) (es : List Entry) (i : ℕ) → place_of q es ≡ Some i
     → option_map (λ r. r.expression) (slice_get (show_relations es) i) ≡ option_map (λ r. r.expression) (relation_named q (show_relations es))
 expression_placed q es i at =
+    let s = stands q es i at in
     ap (option_map (λ r. r.expression)) (slice_get-map show_relation es i)
     ∙ map-map show_relation (λ r. r.expression) (slice_get es i)
     ∙ sym (map-map (λ (e : Entry). e.1) (λ r. expression_of r.rewrite) (slice_get es i))
-    ∙ ap (option_map (λ r. expression_of r.rewrite)) (sym (slice_get-map (λ (e : Entry). e.1) es i) ∙ sym (Found-position (is_text q) es i at).value)
+    ∙ ap (option_map (λ r. expression_of r.rewrite)) (ap (option_map (λ e. e.1)) s.there ∙ sym s.value)
     ∙ sym (expression_found q es)
 
 -- and none, where the name stands nowhere
-pub none_placed : (q : List ℕ) (es : List Entry) → position (is_text q) (keys_of es) ≡ None
+pub none_placed : (q : List ℕ) (es : List Entry) → place_of q es ≡ None
     → option_map (λ r. r.expression) (relation_named q (show_relations es)) ≡ None
 none_placed q es none =
-    expression_found q es ∙ ap (option_map (λ r. expression_of r.rewrite)) (none_there (lookup (is_text q) es) (sym (some_index (is_text q) es) ∙ ap is_some none))
+    expression_found q es ∙ ap (option_map (λ r. expression_of r.rewrite)) (stands_nowhere q es none)
 
 expression_of_rule : (o : Option declaration.Relation) → option_map (λ r. r.expression) (option_map as_rule o) ≡ option_map (λ r. r.expression) o
 expression_of_rule None = refl
@@ -164,8 +166,8 @@ names_shown : (es : List Entry) → relation_names (show_relations es) ≡ map s
 names_shown [] = refl
 names_shown (e ∷ es) = ap (λ ns. string_bytes e.0 ∷ ns) (names_shown es)
 
-pub position-relations : (q : List ℕ) (es : List Entry) → position (bytes_eq q) (relation_names (show_relations es)) ≡ position (is_text q) (keys_of es)
-position-relations q es = ap (position (bytes_eq q)) (names_shown es) ∙ position-map (bytes_eq q) string_bytes (keys_of es)
+pub position-relations : (q : List ℕ) (es : List Entry) → position (bytes_eq q) (relation_names (show_relations es)) ≡ place_of q es
+position-relations q es = ap (position (bytes_eq q)) (names_shown es) ∙ position-map (bytes_eq q) string_bytes (keys_of es) ∙ position-map (is_text q) (λ (e : Entry). e.0) es
 
 -- ---- one more
 

@@ -4,8 +4,8 @@ use Rattle.std.specs.Global.{Vec}
 use Rattle.std.specs.Str.{bytes_eq}
 use Rattle.std.specs.List.{list_any, prefix_len}
 use Rattle.std.proofs.lemmas.List.Quantifiers.{position-Some}
-use Rattle.std.specs.Map.{lookup, keys_of, values_of}
-use Rattle.indexmap.specs.IndexMap.{set_value_at}
+use Rattle.std.specs.Map.{lookup, keys_of}
+use Rattle.names.specs.Names.{place_of, with_value}
 use Rattle.namespaces.specs.Declaration.{Declaration}
 use Rattle.namespaces.specs.Lookup.{with_name, names_after, namespace_names}
 use Rattle.namespaces.specs.Index.{Index, show_index, revision, with_revision, with_revision_at, index_after, index_of, revisions_from, revisions_of, unless_empty}
@@ -86,24 +86,31 @@ index_after-push es line (c ∷ ds) d =
 pub index_of-push : (ds : List Declaration) (d : Declaration) → index_of (ds ++ d ∷ []) ≡ with_revision d.name (revision (length ds) d) (index_of ds)
 index_of-push ds d = let e : 0 + length ds ≡ length ds = omega arith in rw e at (index_after-push [] 0 ds d)
 
+with_value-twice : {V : Type 0} (i : ℕ) (u w : V) (es : List (String Global × V)) → with_value i w (with_value i u es) ≡ with_value i w es
+with_value-twice i u w [] = refl
+with_value-twice zero u w (e ∷ es) = refl
+with_value-twice (suc i) u w (e ∷ es) = ap (λ r. e ∷ r) (with_value-twice i u w es)
+
 -- a revision behind the others of a namespace
-pub show_index-set : (es : List IndexEntry) (i : ℕ) (was w : Vec Revision) (v : Revision) → slice_get (values_of es) i ≡ Some was → w.items ≡ was.items ++ v ∷ []
-    → show_index (set_value_at es i w) ≡ with_revision_at i v (show_index es)
+show_index-set : (es : List IndexEntry) (i : ℕ) (was w : Vec Revision) (v : Revision) → option_map (λ e. e.1) (slice_get es i) ≡ Some was → w.items ≡ was.items ++ v ∷ []
+    → show_index (with_value i w es) ≡ with_revision_at i v (show_index es)
 show_index-set [] i was w v at more = cc
 show_index-set (e ∷ es) zero was w v at more = let same : e.1 ≡ was = cc in rw (more, same) refl
 show_index-set (e ∷ es) (suc i) was w v at more = ap (λ r. (string_bytes e.0, e.1.items) ∷ r) (show_index-set es i was w v at more)
 
 -- the same revisions of a namespace
-pub show_index-same : (es : List IndexEntry) (i : ℕ) (was w : Vec Revision) → slice_get (values_of es) i ≡ Some was → w.items ≡ was.items → show_index (set_value_at es i w) ≡ show_index es
+show_index-same : (es : List IndexEntry) (i : ℕ) (was w : Vec Revision) → option_map (λ e. e.1) (slice_get es i) ≡ Some was → w.items ≡ was.items → show_index (with_value i w es) ≡ show_index es
 show_index-same [] i was w at same = cc
 show_index-same (e ∷ es) zero was w at same = let here : e.1 ≡ was = cc in rw (same, here) refl
 show_index-same (e ∷ es) (suc i) was w at same = ap (λ r. (string_bytes e.0, e.1.items) ∷ r) (show_index-same es i was w at same)
 
--- past the last namespace there is none
-pub with_revision_at-past : (es : List IndexEntry) (i : ℕ) (v : Revision) → slice_get (values_of es) i ≡ None → show_index es ≡ with_revision_at i v (show_index es)
-with_revision_at-past [] i v at = refl
-with_revision_at-past (e ∷ es) zero v at = cc
-with_revision_at-past (e ∷ es) (suc i) v at = ap (λ r. (string_bytes e.0, e.1.items) ∷ r) (with_revision_at-past es i v at)
+-- what was taken out of the table for a while, and put back
+module _ (es : List IndexEntry) (i : ℕ) (none was w : Vec Revision) (taken : option_map (λ e. e.1) (slice_get es i) ≡ Some was) where
+  pub put_back_more : (v : Revision) → w.items ≡ was.items ++ v ∷ [] → show_index (with_value i w (with_value i none es)) ≡ with_revision_at i v (show_index es)
+  put_back_more v more = ap show_index (with_value-twice i none w es) ∙ show_index-set es i was w v taken more
+
+  pub put_back : w.items ≡ was.items → show_index (with_value i w (with_value i none es)) ≡ show_index es
+  put_back same = ap show_index (with_value-twice i none w es) ∙ show_index-same es i was w taken same
 
 pub show_index-push : (es : List IndexEntry) (e : IndexEntry) → show_index (es ++ e ∷ []) ≡ show_index es ++ (string_bytes e.0, e.1.items) ∷ []
 show_index-push [] e = refl
@@ -128,9 +135,9 @@ pub position-map : {X Y : Type 0} (p : Y → Bool) (f : X → Y) (xs : List X) �
 position-map p f xs = rw (prefix_len-map (λ y. not (p y)) f xs, length-mapped f xs) refl
 
 -- where the name stands first
-pub with_revision-there : (n : List ℕ) (v : Revision) (es : List IndexEntry) (i : ℕ) → position (is_text n) (keys_of es) ≡ Some i → with_revision n v (show_index es) ≡ with_revision_at i v (show_index es)
+pub with_revision-there : (n : List ℕ) (v : Revision) (es : List IndexEntry) (i : ℕ) → place_of n es ≡ Some i → with_revision n v (show_index es) ≡ with_revision_at i v (show_index es)
 with_revision-there n v es i at =
-    let shown : position (bytes_eq n) (keys_of (show_index es)) ≡ Some i = rw (names-show_index es) (position-map (bytes_eq n) string_bytes (keys_of es) ∙ at) in
+    let shown : position (bytes_eq n) (keys_of (show_index es)) ≡ Some i = rw (names-show_index es) (position-map (bytes_eq n) string_bytes (keys_of es) ∙ position-map (is_text n) (λ (e : IndexEntry). e.0) es ∙ at) in
     let found = position-Some (bytes_eq n) (keys_of (show_index es)) i [] shown in
     there_by_index n v (show_index es) i [] found.0 found.1 found.2
 

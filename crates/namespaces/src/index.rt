@@ -1,13 +1,13 @@
 //! Where the declarations of each namespace stand.
-ghost use Rattle.std.specs.Prelude.{◌≡◌, [], ◌∷◌, ◌++◌, slice_get, None, false, is_some, nat_le, nat_lt, filter, string_bytes, IfErr, OnOk, OnErr};
+ghost use Rattle.std.specs.Prelude.{◌≡◌, ◌<◌, length, [], ◌∷◌, ◌++◌, slice_get, None, false, is_some, nat_le, nat_lt, filter, string_bytes, IfErr, OnOk, OnErr};
 ghost use Rattle.std.specs.List.{last_or};
 ghost use Rattle.std.specs.List.Sorted.{IsNonDecreasingBy};
-ghost use Rattle.indexmap.specs.IndexMap.{get_by_text};
+ghost use Rattle.names.specs.Names.{value_of};
 ghost use Rattle.namespaces.specs.Index as spec;
 ghost use Rattle.namespaces.specs.Index.{show_index};
 
 use crate::fault::RulesFault;
-use indexmap::IndexMap;
+use names::Names;
 use std::alloc::Global;
 
 /// A declaration of a namespace: from when it is in force, how many relations it has, and at which line it stands.
@@ -40,7 +40,7 @@ pub(crate) fn revision_with(revisions: &[Revision], index: usize, k: usize) -> O
 /// Notes a revision of a namespace.
 pub(crate) fn note(
     alloc: Global,
-    namespaces: &mut IndexMap<String, Vec<Revision>>,
+    namespaces: &mut Names<Vec<Revision>>,
     name: String,
     revision: Revision,
 ) -> Result<(), RulesFault>
@@ -49,37 +49,40 @@ pub(crate) fn note(
     ensures unchanged { OnErr result (show_index namespaces.new.entries ≡ show_index namespaces.old.entries) }
     ensures memory { IfErr result (λ e. e ≡ RulesFault.OutOfMemory) }
 {
-    match namespaces.get_index_of(name.as_str()) {
-        Some(index) => note_further(namespaces, index, revision),
+    match namespaces.place(name.as_str()) {
+        Some(index) => note_further(alloc, namespaces, index, revision),
         None => note_first(alloc, namespaces, name, revision),
     }
 }
 
 /// Notes a revision of the namespace at a place.
 fn note_further(
-    namespaces: &mut IndexMap<String, Vec<Revision>>,
+    alloc: Global,
+    namespaces: &mut Names<Vec<Revision>>,
     index: usize,
     revision: Revision,
 ) -> Result<(), RulesFault>
+    requires { index < length namespaces.old.entries }
     ensures ok { OnOk result (show_index namespaces.new.entries
         ≡ spec.with_revision_at index revision (show_index namespaces.old.entries)) }
     ensures unchanged { OnErr result (show_index namespaces.new.entries ≡ show_index namespaces.old.entries) }
     ensures memory { IfErr result (λ e. e ≡ RulesFault.OutOfMemory) }
 {
-    if let Some(revisions) = namespaces.get_index_mut(index) {
-        revisions.push(revision)?;
-    }
+    let mut revisions = namespaces.replace(index, Vec::new(alloc));
+    let pushed = revisions.push(revision);
+    let _ = namespaces.replace(index, revisions);
+    pushed?;
     Ok(())
 }
 
 /// Notes the first revision of a namespace.
 fn note_first(
     alloc: Global,
-    namespaces: &mut IndexMap<String, Vec<Revision>>,
+    namespaces: &mut Names<Vec<Revision>>,
     name: String,
     revision: Revision,
 ) -> Result<(), RulesFault>
-    requires { is_some (get_by_text namespaces.old (string_bytes name)) ≡ false }
+    requires { is_some (value_of (string_bytes name) namespaces.old.entries) ≡ false }
     ensures ok { OnOk result (show_index namespaces.new.entries
         ≡ show_index namespaces.old.entries ++ (string_bytes name, revision ∷ []) ∷ []) }
     ensures unchanged { OnErr result (show_index namespaces.new.entries ≡ show_index namespaces.old.entries) }
@@ -87,6 +90,6 @@ fn note_first(
 {
     let mut revisions = Vec::new(alloc);
     revisions.push(revision)?;
-    namespaces.insert(name, revisions)?;
+    let _ = namespaces.put(name, revisions)?;
     Ok(())
 }

@@ -23,7 +23,6 @@
 
 mod fault;
 mod index;
-mod lookups;
 mod number;
 mod reading;
 mod relation;

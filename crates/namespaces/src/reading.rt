@@ -15,7 +15,7 @@ ghost use Rattle.rewrites.specs.View.{expression_of, expressions_of};
 
 use crate::fault::RulesFault;
 use crate::relation::{Relation, relation_of};
-use indexmap::IndexMap;
+use names::Names;
 use rewrites::{Rewrite, minus};
 use serde_json::Value;
 use std::alloc::Global;
@@ -209,7 +209,7 @@ pub(crate) fn read_draft(alloc: Global, value: &Value) -> Result<Draft, RulesFau
 
 /// Whether each relation that a rule names is declared.
 #[cycle(reads_declared)]
-pub(crate) fn reads_declared(rewrite: &Rewrite, relations: &IndexMap<String, Relation>) -> bool
+pub(crate) fn reads_declared(rewrite: &Rewrite, relations: &Names<Relation>) -> bool
     ensures { result ≡ list_all (λ q. list_any (λ e. bytes_eq q e.name) (show_relations relations.now.entries))
         (form.own_relations (expression_of rewrite.now)) }
 {
@@ -228,7 +228,7 @@ pub(crate) fn reads_declared(rewrite: &Rewrite, relations: &IndexMap<String, Rel
 
 #[cycle(reads_declared)]
 #[tactic(auto, using(crate::proofs::Walks::children_step))]
-fn all_read_declared(children: &Vec<Rewrite>, relations: &IndexMap<String, Relation>) -> bool
+fn all_read_declared(children: &Vec<Rewrite>, relations: &Names<Relation>) -> bool
     ensures { result ≡ list_all (λ q. list_any (λ e. bytes_eq q e.name) (show_relations relations.now.entries))
         (form.own_relations_all (expressions_of children.now.items)) }
 {
@@ -240,8 +240,8 @@ fn all_read_declared(children: &Vec<Rewrite>, relations: &IndexMap<String, Relat
     true
 }
 
-fn is_declared(relation: &str, relations: &IndexMap<String, Relation>) -> bool
+fn is_declared(relation: &str, relations: &Names<Relation>) -> bool
     ensures { result ≡ list_any (λ e. bytes_eq relation.now e.name) (show_relations relations.now.entries) }
 {
-    relations.contains_key(relation)
+    relations.contains(relation)
 }

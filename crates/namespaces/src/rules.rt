@@ -11,12 +11,11 @@ ghost use Rattle.namespaces.specs.WellFormed.{IsWellFormed};
 
 use crate::fault::RulesFault;
 use crate::index::{Revision, note, revision_at, revision_with};
-use crate::lookups::{place_in, value_in};
 use crate::number::{MAX_NUMBER, RelNo, RulePlace};
 use crate::reading::{Draft, read_draft};
 use crate::relation::{PlainRule, Relation};
 use crate::table::{Namespace, check_declaration, copied_namespace, keeps_names, keeps_strata};
-use indexmap::IndexMap;
+use names::Names;
 use rewrites::{Rewrite, leaves_of};
 use serde_json::Value;
 use std::alloc::{AllocError, Global};
@@ -42,7 +41,7 @@ pub struct Rules {
     // every declaration, in order
     lines: Vec<Line>,
     // each namespace in order of its first declaration, and where its declarations stand
-    namespaces: IndexMap<String, Vec<Revision>>,
+    namespaces: Names<Vec<Revision>>,
     // how many of the declarations are changes
     changes: u16,
 }
@@ -93,7 +92,7 @@ impl Rules {
     {
         Rules {
             lines: Vec::new(alloc),
-            namespaces: IndexMap::new(alloc),
+            namespaces: Names::new(alloc),
             changes: 0,
         }
     }
@@ -173,7 +172,7 @@ impl Rules {
             ≡ option_map (λ r. r.expression) (rule_of (rule_at self.now at) (set_value set.entry)) }
     {
         let revision = self.revision_in_force(set.namespace, at)?;
-        let relation = place_in(self.relations_in(revision.line)?, set.relation)?;
+        let relation = self.relations_in(revision.line)?.place(set.relation)?;
         Some(RulePlace {
             line: revision.line,
             relation,
@@ -221,7 +220,7 @@ impl Rules {
     pub fn name_in_force(&self, namespace: &str, at: u64, k: usize) -> Option<&str>
         ensures { option_map (λ s. s.now) result ≡ slice_get (names_in_force at namespace.now self.now) k }
     {
-        let (name, _) = self.in_force(namespace, at)?.get_index(k)?;
+        let (name, _) = self.in_force(namespace, at)?.at(k)?;
         Some(name.as_str())
     }
 
@@ -254,7 +253,7 @@ impl Rules {
             ≡ option_map (λ r. r.stratum) (relation_of set.entry.namespace.now set.entry.relation.now self.now) }
     {
         let relations = self.newest(set.namespace)?;
-        let relation = value_in(relations, set.relation)?;
+        let relation = relations.get(set.relation)?;
         Some(relation.stratum)
     }
 
@@ -263,7 +262,7 @@ impl Rules {
         ensures { result ≡ number_of set.entry.namespace.now set.entry.relation.now self.now }
     {
         let namespace = self.namespace_number(set.namespace)?;
-        let relation = place_in(self.newest(set.namespace)?, set.relation)?;
+        let relation = self.newest(set.namespace)?.place(set.relation)?;
         Some(RelNo {
             namespace,
             relation: relation as u16 + 1,
@@ -286,7 +285,7 @@ impl Rules {
     pub fn namespace_number(&self, namespace: &str) -> Option<u16>
         ensures { result ≡ place_of namespace.now (namespace_names self.now) }
     {
-        let index = place_in(&self.namespaces, namespace)?;
+        let index = self.namespaces.place(namespace)?;
         Some(index as u16 + 1)
     }
 
@@ -339,7 +338,7 @@ impl Rules {
     {
         let namespaces = &self.namespaces;
         let index = number.checked_sub(1)?;
-        let (name, revisions) = namespaces.get_index(index as usize)?;
+        let (name, revisions) = namespaces.at(index as usize)?;
         Some((name.as_str(), revisions))
     }
 
@@ -363,11 +362,11 @@ impl Rules {
         ensures { option_map (λ p. show_relation (p.0.now, p.1.now)) result
             ≡ option_and_then (λ rs. slice_get rs place.relation) (option_map (λ d. d.relations) (slice_get self.now place.line)) }
     {
-        self.relations_in(place.line)?.get_index(place.relation)
+        self.relations_in(place.line)?.at(place.relation)
     }
 
     /// The relations of the declaration of a number.
-    fn relations_in(&self, line: usize) -> Option<&IndexMap<String, Relation>>
+    fn relations_in(&self, line: usize) -> Option<&Names<Relation>>
         ensures { option_map (λ m. show_relations m.now.entries) result
             ≡ option_map (λ d. d.relations) (slice_get self.now line) }
     {
@@ -376,13 +375,13 @@ impl Rules {
     }
 
     /// The relations of a namespace by its last declaration.
-    fn newest(&self, namespace: &str) -> Option<&IndexMap<String, Relation>>
+    fn newest(&self, namespace: &str) -> Option<&Names<Relation>>
         ensures relations { option_map (λ m. show_relations m.now.entries) result
             ≡ relations_of namespace.now self.now }
         ensures limit { IfSome result (λ m. length m.now.entries ≤ 256) }
         ensures well_formed { IsWellFormed self.now }
     {
-        let newest = value_in(&self.namespaces, namespace)?.last().copied()?;
+        let newest = self.namespaces.get(namespace)?.last().copied()?;
         self.relations_in(newest.line)
     }
 
@@ -392,12 +391,12 @@ impl Rules {
             ≡ relations_at at namespace.now self.now }
         ensures well_formed { IsWellFormed self.now }
     {
-        let revisions = value_in(&self.namespaces, namespace)?;
+        let revisions = self.namespaces.get(namespace)?;
         revision_at(revisions.as_slice(), at)
     }
 
     /// The relations of a namespace by the last declaration in force at a timestamp.
-    fn in_force(&self, namespace: &str, at: u64) -> Option<&IndexMap<String, Relation>>
+    fn in_force(&self, namespace: &str, at: u64) -> Option<&Names<Relation>>
         ensures relations { option_map (λ m. show_relations m.now.entries) result
             ≡ relations_at at namespace.now self.now }
         ensures well_formed { IsWellFormed self.now }
@@ -412,7 +411,7 @@ impl Rules {
             ≡ option_map (λ r. r.expression) (rule_of (rule_at self.now at) (set_value set.entry)) }
     {
         let relations = self.in_force(set.namespace, at)?;
-        value_in(relations, set.relation)
+        relations.get(set.relation)
     }
 
     /// The namespace that `add` would declare.
@@ -470,7 +469,7 @@ impl Rules {
     fn is_declared(&self, namespace: &str) -> bool
         ensures { result ≡ adding.is_declared namespace.now self.now }
     {
-        self.namespaces.contains_key(namespace)
+        self.namespaces.contains(namespace)
     }
 
     /// Puts a declaration last.

@@ -2,7 +2,7 @@
 ghost use Rattle.std.specs.Prelude.{◌≡◌, ◌&&◌, not, ◌∷◌, ◌++◌, [], if◌then◌else◌, is_some, false, string_bytes, OnOk};
 ghost use Rattle.std.specs.List.{list_any, list_all};
 ghost use Rattle.tuple_text.specs.Forms.{is_name};
-ghost use Rattle.indexmap.specs.IndexMap.{get_by_text};
+ghost use Rattle.names.specs.Names.{value_of};
 ghost use Rattle.namespaces.specs.Adding as adding;
 ghost use Rattle.namespaces.specs.Changing as changing;
 ghost use Rattle.namespaces.specs.Drafts.{show_draft};
@@ -17,7 +17,7 @@ use crate::fault::RulesFault;
 use crate::number::MAX_NUMBER;
 use crate::reading::{Draft, reads_declared};
 use crate::relation::{Relation, relation_of};
-use indexmap::IndexMap;
+use names::Names;
 use rewrites::{Rewrite, copy_of, counts_fit, has_good_names, is_deeper};
 use std::alloc::Global;
 use tuple_text::is_name;
@@ -28,7 +28,7 @@ const MAX_DEPTH: u8 = 32;
 /// A namespace that passed every test of its own value.
 pub(crate) struct Namespace {
     pub(crate) name: String,
-    pub(crate) relations: IndexMap<String, Relation>,
+    pub(crate) relations: Names<Relation>,
 }
 
 impl Drop for Namespace {
@@ -72,7 +72,7 @@ fn check_names(draft: &Draft, repeated: bool) -> Result<(), RulesFault>
 }
 
 /// Refuses relations that read what is not declared, nest too deep or are beyond a limit.
-fn check_relations(full: bool, relations: &IndexMap<String, Relation>) -> Result<(), RulesFault>
+fn check_relations(full: bool, relations: &Names<Relation>) -> Result<(), RulesFault>
     ensures { Gives (λ u. u) result
         (if not (list_all (adding.reads_declared (show_relations relations.now.entries)) (show_relations relations.now.entries))
         then Err RulesFault.UndeclaredRelation
@@ -107,12 +107,12 @@ pub(crate) fn copied_namespace(
 
 fn copied_relations(
     alloc: Global,
-    relations: &IndexMap<String, Relation>,
+    relations: &Names<Relation>,
 ) -> Result<Vec<(String, Relation)>, RulesFault>
     ensures { Gives (λ v. show_relations v.items) result (Ok (show_relations relations.now.entries)) }
 {
     let mut copies = Vec::new(alloc);
-    for (name, relation) in relations.iter() {
+    for (name, relation) in relations.entries() {
         let copy = copied_relation(alloc, name.as_str(), relation)?;
         copies.push(copy)?;
     }
@@ -149,12 +149,12 @@ fn are_well_named(relations: &Vec<(String, Relation)>) -> bool
 fn table_of(
     alloc: Global,
     relations: Vec<(String, Relation)>,
-) -> Result<IndexMap<String, Relation>, RulesFault>
+) -> Result<Names<Relation>, RulesFault>
     ensures { Gives (λ m. show_relations m.entries) result
         (if adding.has_repeats (relation_names (show_relations relations.items))
         then Err RulesFault.RepeatedRelation else Ok (show_relations relations.items)) }
 {
-    let mut table = IndexMap::new(alloc);
+    let mut table = Names::new(alloc);
     for (name, relation) in relations {
         put_new(&mut table, name, relation)?;
     }
@@ -163,27 +163,26 @@ fn table_of(
 
 /// Puts a relation last, if no relation has its name.
 fn put_new(
-    table: &mut IndexMap<String, Relation>,
+    table: &mut Names<Relation>,
     name: String,
     relation: Relation,
 ) -> Result<(), RulesFault>
     ensures refused { Gives (λ u. u) result
-        (if is_some (get_by_text table.old (string_bytes name)) then Err RulesFault.RepeatedRelation else Ok (tt {0})) }
+        (if is_some (value_of (string_bytes name) table.old.entries) then Err RulesFault.RepeatedRelation else Ok (tt {0})) }
     ensures put { OnOk result (table.new.entries ≡ table.old.entries ++ (name, relation) ∷ []) }
 {
-    if table.contains_key(name.as_str()) {
+    if !table.put(name, relation)? {
         return Err(RulesFault::RepeatedRelation);
     }
-    let _ = table.insert(name, relation)?;
     Ok(())
 }
 
 /// Whether each rule reads declared relations of its own namespace alone.
-fn all_read_declared(relations: &IndexMap<String, Relation>) -> bool
+fn all_read_declared(relations: &Names<Relation>) -> bool
     ensures { result ≡ list_all (adding.reads_declared (show_relations relations.now.entries))
         (show_relations relations.now.entries) }
 {
-    for (_, relation) in relations.iter() {
+    for (_, relation) in relations.entries() {
         if !reads_declared(&relation.rewrite, relations) {
             return false;
         }
@@ -192,10 +191,10 @@ fn all_read_declared(relations: &IndexMap<String, Relation>) -> bool
 }
 
 /// Whether some rule nests too deep.
-fn is_any_too_deep(relations: &IndexMap<String, Relation>) -> bool
+fn is_any_too_deep(relations: &Names<Relation>) -> bool
     ensures { result ≡ list_any adding.is_too_deep (show_relations relations.now.entries) }
 {
-    for (_, relation) in relations.iter() {
+    for (_, relation) in relations.entries() {
         if is_deeper(&relation.rewrite, MAX_DEPTH) {
             return true;
         }
@@ -204,10 +203,10 @@ fn is_any_too_deep(relations: &IndexMap<String, Relation>) -> bool
 }
 
 /// Whether each union and each intersection has as many children as it may have.
-fn all_counts_fit(relations: &IndexMap<String, Relation>) -> bool
+fn all_counts_fit(relations: &Names<Relation>) -> bool
     ensures { result ≡ list_all (λ r. form.counts_fit r.expression) (show_relations relations.now.entries) }
 {
-    for (_, relation) in relations.iter() {
+    for (_, relation) in relations.entries() {
         if !counts_fit(&relation.rewrite) {
             return false;
         }
@@ -217,7 +216,7 @@ fn all_counts_fit(relations: &IndexMap<String, Relation>) -> bool
 
 /// Whether a count is outside its limit, or `full`.
 #[tactic(auto, unfolding(crate::specs::Adding::is_over_limits))]
-fn is_over_limits(full: bool, relations: &IndexMap<String, Relation>) -> bool
+fn is_over_limits(full: bool, relations: &Names<Relation>) -> bool
     ensures { result ≡ adding.is_over_limits full (show_relations relations.now.entries) }
 {
     full || relations.len() > MAX_NUMBER as usize || !all_counts_fit(relations)
@@ -226,8 +225,8 @@ fn is_over_limits(full: bool, relations: &IndexMap<String, Relation>) -> bool
 /// Whether the new relations begin with the names of the old ones.
 #[tactic(auto, using(crate::proofs::Kept::names_step))]
 pub(crate) fn keeps_names(
-    old: &IndexMap<String, Relation>,
-    new: &IndexMap<String, Relation>,
+    old: &Names<Relation>,
+    new: &Names<Relation>,
 ) -> bool
     ensures { result ≡ changing.keeps_names (show_relations old.now.entries) (show_relations new.now.entries) }
 {
@@ -242,13 +241,13 @@ pub(crate) fn keeps_names(
 /// Whether the relation at a place keeps its name.
 #[tactic(auto, using(crate::proofs::Tables::shown_there))]
 fn keeps_name(
-    old: &IndexMap<String, Relation>,
-    new: &IndexMap<String, Relation>,
+    old: &Names<Relation>,
+    new: &Names<Relation>,
     index: usize,
 ) -> bool
     ensures { result ≡ keeps_name_at (show_relations old.now.entries) (show_relations new.now.entries) index }
 {
-    match (old.get_index(index), new.get_index(index)) {
+    match (old.at(index), new.at(index)) {
         (Some((was, _)), Some((is, _))) => was == is,
         _ => false,
     }
@@ -257,8 +256,8 @@ fn keeps_name(
 /// Whether each old relation has the stratum of the new one in its place.
 #[tactic(auto, using(crate::proofs::Kept::strata_step))]
 pub(crate) fn keeps_strata(
-    old: &IndexMap<String, Relation>,
-    new: &IndexMap<String, Relation>,
+    old: &Names<Relation>,
+    new: &Names<Relation>,
 ) -> bool
     ensures { result ≡ changing.keeps_strata (show_relations old.now.entries) (show_relations new.now.entries) }
 {
@@ -273,13 +272,13 @@ pub(crate) fn keeps_strata(
 /// Whether the relation at a place keeps its stratum, where it still is.
 #[tactic(auto, using(crate::proofs::Tables::shown_there))]
 fn keeps_stratum(
-    old: &IndexMap<String, Relation>,
-    new: &IndexMap<String, Relation>,
+    old: &Names<Relation>,
+    new: &Names<Relation>,
     index: usize,
 ) -> bool
     ensures { result ≡ keeps_stratum_at (show_relations old.now.entries) (show_relations new.now.entries) index }
 {
-    match (old.get_index(index), new.get_index(index)) {
+    match (old.at(index), new.at(index)) {
         (Some((_, was)), Some((_, is))) => was.stratum == is.stratum,
         _ => true,
     }

@@ -1,16 +1,16 @@
 -- Parts, as they are numbered, and nodes that say what expressions say.
-use Rattle.std.proofs.Common.{rules, ◌≡◌, ℕ, zero, suc, ◌+◌, ◌<◌, List, [], ◌∷◌, ◌++◌, Some, false, String, Global, length, drop, map, get_or, add-one, option_map, refl, sym, ◌∙◌, ap, subst, append_assoc}
+use Rattle.std.proofs.Common.{rules, ◌≡◌, ℕ, zero, suc, ◌+◌, ◌<◌, Bool, true, false, not, if◌then◌else◌, Result, Ok, Err, inl, inr, List, [], ◌∷◌, ◌++◌, Some, String, Global, length, drop, map, get_or, add-one, option_map, refl, sym, ◌∙◌, ap, subst, append_assoc}
 use Rattle.std.proofs.Math.Seq.{drop-cons, get_or-append_seam}
 use Rattle.std.proofs.lemmas.List.{append-nil, map-append, length-map, get_or_append_left}
 use Rattle.std.proofs.lemmas.Option.{unwrap_or-slice_get, slice_get-map, slice_get_within, get_or_from_slice_get}
 use Rattle.std.specs.Global.{Vec}
-use Rattle.std.specs.Prelude.{is_some, slice_get, slice_set, string_bytes}
-use Rattle.std.specs.String.{string_eq}
-use Rattle.indexmap.specs.IndexMap.{get_by_text, insert_entry}
-use Rattle.indexmap.proofs.CallerLemmas.{insert_entry-new}
+use Rattle.std.specs.Prelude.{is_some, slice_get, slice_set, string_bytes, IfOk, OnOk}
+use Rattle.std.specs.Str.{bytes_eq}
+use Rattle.std.proofs.lemmas.Map.Made.{is_some-lookup}
+use Rattle.names.specs.Names.{NamesValue, value_of}
 use Rattle.rewrites.specs.Alike.{IsAlike, gives, bars}
 use Rattle.rewrites.specs.Expression.{Expression, tuple_to, union, inter, minus, no_child, children}
-use Rattle.rewrites.specs.Joints.{joined, JoinAlike}
+use Rattle.rewrites.specs.Joints.{joined, IsPut, JoinAlike}
 use Rattle.rewrites.specs.View.{expression_of}
 use Rattle.rewrites.specs.Parts.{each_shown, through_expression, throughs_shown, part_expression, parts_shown, part_at, node_expression, nodes_shown, IsGrown, Says, HasPart, AllSay}
 use Rattle.rewrites.specs.declared.parts.Part.{Part}
@@ -19,7 +19,8 @@ use Rattle.rewrites.specs.declared.parts.Node
 use Rattle.rewrites.specs.declared.parts.Node.{Node, the_lemmas}
 use Rattle.rewrites.specs.declared.parts.Through.{Through}
 use Rattle.rewrites.specs.declared.plain.Joint.{Joint}
-use Rattle.rewrites.proofs.Names.{none_there}
+use Rattle.rewrites.proofs.Names.{by_bool}
+use Rattle.rewrites.proofs.NamedLemmas.{there_shown}
 use Rattle.rewrites.proofs.AlikeLemmas.{or_none, and_all, alike_itself, alike_then, alike_back, alike_front, alike_more, alike_last, alike_swapped, nested_alike, minus_alike, joined_on, joined_on_alike}
 
 -- ---- growth
@@ -38,14 +39,32 @@ later P old new h (added, is) more = rw (is, append_assoc) (h (added ++ more))
 -- ---- a tupleset, and the relations that are read through it
 
 -- one that is not read yet goes behind the others
-pub one_more_shown : (t : Through) (name : String Global) (q : List ℕ) (entries : List (String Global × Unit {0})) → string_bytes name ≡ q
-    → is_some (get_by_text t.computed q) ≡ false → entries ≡ insert_entry string_eq t.computed.entries name (tt {0})
-    → map (λ e. tuple_to (string_bytes t.tupleset) (string_bytes e.0)) entries ≡ each_shown t ++ tuple_to (string_bytes t.tupleset) q ∷ []
-one_more_shown t name q entries text absent is =
-    let apart : is_some (get_by_text t.computed (string_bytes name)) ≡ false = rw text absent in
-    let last : entries ≡ t.computed.entries ++ (name, tt {0}) ∷ [] =
-    is ∙ insert_entry-new string_eq t.computed name (tt {0}) (none_there (get_by_text t.computed (string_bytes name)) apart) in
-    rw (last, ← text) (map-append (λ e. tuple_to (string_bytes t.tupleset) (string_bytes e.0)) t.computed.entries ((name, tt {0}) ∷ []))
+pub one_more_shown : (tupleset : String Global) (es : List (String Global × Unit {0})) (name : String Global) (q : List ℕ) → string_bytes name ≡ q
+    → map (λ e. tuple_to (string_bytes tupleset) (string_bytes e.0)) (es ++ (name, tt {0}) ∷ [])
+    ≡ map (λ e. tuple_to (string_bytes tupleset) (string_bytes e.0)) es ++ tuple_to (string_bytes tupleset) q ∷ []
+one_more_shown tupleset es name q text =
+    rw (← text) (map-append (λ e. tuple_to (string_bytes tupleset) (string_bytes e.0)) es ((name, tt {0}) ∷ []))
+
+module _ (tupleset : String Global) (old new : NamesValue (Unit {0})) (name : String Global) (q : List ℕ) (text : string_bytes name ≡ q) where
+  abbrev read : NamesValue (Unit {0}) → List Expression
+  read names = map (λ e. tuple_to (string_bytes tupleset) (string_bytes e.0)) names.entries
+
+  -- whether one more is read, as the table of names says, or it was read before
+  pub more_shown : {E : Type 0} (o : Result Bool E) → IfOk o (λ r. r ≡ true → new.entries ≡ old.entries ++ (name, tt {0}) ∷ []) → IfOk o (λ r. r ≡ false → new ≡ old)
+      → IfOk o (λ r. read new ≡ (if r then read old ++ tuple_to (string_bytes tupleset) q ∷ [] else read old))
+  more_shown (Ok true) put there = rw (put refl) (one_more_shown tupleset old.entries name q text)
+  more_shown (Ok false) put there = ap read (there refl)
+  more_shown (Err e) put there = tt
+
+  pub put_shown : {E : Type 0} (o : Result Bool E) → IfOk o (λ r. r ≡ not (is_some (value_of (string_bytes name) old.entries)))
+      → IfOk o (λ r. r ≡ true → new.entries ≡ old.entries ++ (name, tt {0}) ∷ []) → IfOk o (λ r. r ≡ false → new ≡ old)
+      → OnOk o (IsPut (read old) (read new) (tuple_to (string_bytes tupleset) q))
+  put_shown (Ok true) known put there = inl (rw (put refl) (one_more_shown tupleset old.entries name q text))
+  put_shown (Ok false) known put there = inr (
+    ap read (there refl),
+    there_shown (tuple_to (string_bytes tupleset)) q old.entries (rw text at (sym (is_some-lookup (λ k. bytes_eq (string_bytes name) (string_bytes k)) old.entries) ∙ by_bool (is_some (value_of (string_bytes name) old.entries)) (λ t. t) (λ f. let c : false ≡ not false = rw f at known in cc))),
+  )
+  put_shown (Err e) known put there = tt
 
 -- ---- one part
 

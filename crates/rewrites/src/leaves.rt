@@ -15,7 +15,7 @@ use std::collections::BTreeMap;
 fn collect(
     rewrite: &Rewrite,
     kept: &mut Vec<Rewrite>,
-    places: &mut BTreeMap<u64, usize>,
+    places: &mut BTreeMap<String, usize>,
 ) -> Result<(), AllocError>
     ensures { OnOk result (Collects (map expression_of kept.old.items) (map expression_of kept.new.items)
         (leaves (expression_of rewrite.now))) }
@@ -41,7 +41,7 @@ fn collect(
 fn collect_all(
     children: &Vec<Rewrite>,
     kept: &mut Vec<Rewrite>,
-    places: &mut BTreeMap<u64, usize>,
+    places: &mut BTreeMap<String, usize>,
 ) -> Result<(), AllocError>
     ensures { OnOk result (Collects (map expression_of kept.old.items) (map expression_of kept.new.items)
         (leaves_of_all (expressions_of children.now.items))) }

@@ -1,6 +1,6 @@
 //! Rules by their parts, each of which is asked for once, wherever it stands in the rule.
 
-ghost use Rattle.std.specs.Prelude.{◌≡◌, ◌↔◌, IsTrue, Contains, ◌∷◌, ◌++◌, [], List, Some, true, false, if◌then◌else◌, map, slice_get, string_bytes, IfOk, OnOk};
+ghost use Rattle.std.specs.Prelude.{◌≡◌, ◌↔◌, IsTrue, Contains, ◌∷◌, ◌++◌, [], List, Some, true, false, if◌then◌else◌, map, slice_get, option_map, string_bytes, IfOk, OnOk};
 ghost use Rattle.rewrites.specs.Alike.{IsAlike};
 ghost use Rattle.rewrites.specs.Expression.{Expression, tuple_to, minus};
 ghost use Rattle.rewrites.specs.Joints.{IsPut, JoinAlike};
@@ -8,9 +8,9 @@ ghost use Rattle.rewrites.specs.Parts.{computed_names, each_shown, throughs_show
 ghost use Rattle.rewrites.specs.View.{expression_of};
 ghost use Rattle.rewrites.specs.declared.plain.Joint.TheVariants.{Union, Inter};
 
-use crate::plain::{is_same, mark, text_mark};
+use crate::plain::{is_same, text_of};
 use crate::rewrite::{Rewrite, copy_of};
-use indexmap::IndexMap;
+use names::Names;
 use std::alloc::{AllocError, Global};
 use std::collections::BTreeMap;
 
@@ -18,7 +18,7 @@ use std::collections::BTreeMap;
 #[derive(Drop)]
 pub struct Through {
     pub tupleset: String,
-    pub computed: IndexMap<String, ()>,
+    pub computed: Names<()>,
 }
 
 impl Through {
@@ -27,19 +27,27 @@ impl Through {
         ensures { IfOk result (λ t. each_shown t
             ≡ tuple_to (string_bytes tupleset.now) (string_bytes computed.now) ∷ []) }
     {
-        let mut names = IndexMap::new(alloc);
-        let _ = names.insert(computed.clone()?, ())?;
+        let mut names = Names::new(alloc);
+        let _ = names.put(computed.clone()?, ())?;
         Ok(Through {
             tupleset: tupleset.clone()?,
             computed: names,
         })
     }
 
+    /// The name at a place, from 0, of those that are read through the tupleset. `None` past the last.
+    pub fn name(&self, place: usize) -> Option<&str>
+        ensures { option_map (λ s. s.now) result ≡ slice_get (computed_names self.now) place }
+    {
+        let (name, _) = self.computed.at(place)?;
+        Some(name.as_str())
+    }
+
     /// Whether a relation of this name is read through the tupleset.
     pub fn reads(&self, name: &str) -> bool
         ensures { IsTrue result ↔ Contains (computed_names self.now) name.now }
     {
-        self.computed.contains_key(name)
+        self.computed.contains(name)
     }
 
     /// Reads one more relation through the tupleset, unless it is read there already. Whether it was not.
@@ -51,11 +59,7 @@ impl Through {
             ++ tuple_to (string_bytes self.old.tupleset) (string_bytes computed.now) ∷ []
             else each_shown self.old)) }
     {
-        if self.computed.contains_key(computed.as_str()) {
-            return Ok(false);
-        }
-        let _ = self.computed.insert(computed.clone()?, ())?;
-        Ok(true)
+        self.computed.put(computed.clone()?, ())
     }
 }
 
@@ -85,12 +89,12 @@ pub struct PartedRule {
     pub top: Node,
 }
 
-/// The parts that are numbered so far, and by the marks of leaves where these stand.
+/// The parts that are numbered so far, and by the texts of leaves where these stand.
 #[derive(Drop)]
 struct Numbering {
     alloc: Global,
     parts: Vec<Part>,
-    places: BTreeMap<u64, usize>,
+    places: BTreeMap<String, usize>,
 }
 
 /// Whether a leaf is the part of a number.
@@ -121,14 +125,14 @@ impl Numbering {
         ensures { IfOk result
             (λ n. HasPart (parts_shown self.old.parts.items) (parts_shown self.new.parts.items) n (expression_of leaf.now)) }
     {
-        let mark = mark(leaf);
-        if let Some(number) = self.places.get(&mark).copied() {
+        let text = text_of(self.alloc, leaf)?;
+        if let Some(number) = self.places.get(text.as_str()).copied() {
             if is_part(&self.parts, number, leaf) {
                 return Ok(number);
             }
         }
         let number = self.push(Part::Leaf(copy_of(self.alloc, leaf)?))?;
-        let _ = self.places.insert(mark, number)?;
+        let _ = self.places.insert(text, number)?;
         Ok(number)
     }
 }
@@ -140,13 +144,13 @@ fn is_of(through: &Through, tupleset: &String) -> bool
     through.tupleset == *tupleset
 }
 
-/// The children of a union that go through tuplesets, one tupleset after the other, and by their marks where these
+/// The children of a union that go through tuplesets, one tupleset after the other, and by their names where these
 /// stand.
 #[derive(Drop)]
 struct Throughs {
     alloc: Global,
     each: Vec<Through>,
-    places: BTreeMap<u64, usize>,
+    places: BTreeMap<String, usize>,
 }
 
 impl Throughs {
@@ -157,8 +161,11 @@ impl Throughs {
         ensures same { IfOk result (λ r. r ≡ false
             → throughs_shown self.new.each.items ≡ throughs_shown self.old.each.items) }
     {
-        let mark = text_mark(0, tupleset.as_str());
-        let place = self.places.get(&mark).copied().unwrap_or(self.each.len());
+        let place = self
+            .places
+            .get(tupleset.as_str())
+            .copied()
+            .unwrap_or(self.each.len());
         if place < self.each.len() && is_of(&self.each[place], tupleset) {
             let is_read = self.each[place].read_more(computed)?;
             return Ok(is_read);
@@ -166,7 +173,7 @@ impl Throughs {
         let through = Through::of(self.alloc, tupleset, computed)?;
         let place = self.each.len();
         self.each.push(through)?;
-        let _ = self.places.insert(mark, place)?;
+        let _ = self.places.insert(tupleset.clone()?, place)?;
         Ok(true)
     }
 }

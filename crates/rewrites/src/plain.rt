@@ -55,41 +55,47 @@ fn are_same(some: &Vec<Rewrite>, others: &Vec<Rewrite>) -> bool
     true
 }
 
-/// The number with one more word in it (Fowler, Noll and Vo's hash).
-fn mix(mark: u64, word: u64) -> u64 {
-    (mark ^ word).wrapping_mul(0x0000_0100_0000_01b3)
-}
-
-pub(crate) fn text_mark(mark: u64, text: &str) -> u64 {
-    let mut mark = mix(mark, text.len() as u64);
-    for byte in text.as_bytes() {
-        mark = mix(mark, u64::from(*byte));
-    }
-    mark
-}
-
-/// A number that rules share which are the same.
-#[cycle(mark)]
-pub(crate) fn mark(rewrite: &Rewrite) -> u64 {
+/// Writes a rule behind a text, each name followed by a sign that no name has. So rules that differ have texts that
+/// differ.
+#[cycle(write)]
+fn write(text: &mut String, rewrite: &Rewrite) -> Result<(), AllocError> {
     match rewrite {
-        Rewrite::This => 1,
-        Rewrite::Computed(relation) => text_mark(2, relation.as_str()),
-        Rewrite::TupleTo { tupleset, computed } => {
-            text_mark(text_mark(3, tupleset.as_str()), computed.as_str())
+        Rewrite::This => text.push('.'),
+        Rewrite::Computed(relation) => {
+            text.push_str(relation.as_str())?;
+            text.push(';')
         }
-        Rewrite::Union(children) => mark_all(4, children),
-        Rewrite::Inter(children) => mark_all(5, children),
-        Rewrite::Minus(base, subtract) => mix(mix(6, mark(base)), mark(subtract)),
+        Rewrite::TupleTo { tupleset, computed } => {
+            text.push_str(tupleset.as_str())?;
+            text.push('>')?;
+            text.push_str(computed.as_str())?;
+            text.push(';')
+        }
+        Rewrite::Union(children) => write_all(text, '|', children),
+        Rewrite::Inter(children) => write_all(text, '&', children),
+        Rewrite::Minus(base, subtract) => {
+            text.push('-')?;
+            write(text, base)?;
+            write(text, subtract)
+        }
     }
 }
 
-#[cycle(mark)]
-fn mark_all(first: u64, children: &Vec<Rewrite>) -> u64 {
-    let mut all = first;
+#[cycle(write)]
+fn write_all(text: &mut String, sign: char, children: &Vec<Rewrite>) -> Result<(), AllocError> {
+    text.push(sign)?;
     for child in children {
-        all = mix(all, mark(child));
+        write(text, child)?;
     }
-    all
+    text.push(')')
+}
+
+/// A rule as a text, by which the same rule is found. A stranger names the relations: so rules are told apart by their
+/// texts, in a tree, and by no number that is made of them.
+pub(crate) fn text_of(alloc: Global, rewrite: &Rewrite) -> Result<String, AllocError> {
+    let mut text = String::new(alloc);
+    write(&mut text, rewrite)?;
+    Ok(text)
 }
 
 /// Whether the same rule stands at a place.
@@ -102,7 +108,7 @@ fn stands_at(kept: &[Rewrite], place: usize, child: &Rewrite) -> bool
     }
 }
 
-/// Whether the same rule stands at the place of its mark.
+/// Whether the same rule stands at the place of its text, if there is one.
 fn stands(kept: &[Rewrite], place: Option<usize>, child: &Rewrite) -> bool
     ensures { result ≡ true → Contains (map expression_of kept.now) (expression_of child.now) }
 {
@@ -112,21 +118,21 @@ fn stands(kept: &[Rewrite], place: Option<usize>, child: &Rewrite) -> bool
     }
 }
 
-/// Puts a child last, unless the same stands at the place of its mark.
+/// Puts a child last, unless the same stands there.
 pub(crate) fn put(
     kept: &mut Vec<Rewrite>,
-    places: &mut BTreeMap<u64, usize>,
+    places: &mut BTreeMap<String, usize>,
     child: Rewrite,
 ) -> Result<(), AllocError>
     ensures { OnOk result (IsPut (map expression_of kept.old.items) (map expression_of kept.new.items) (expression_of child)) }
 {
-    let mark = mark(&child);
-    if stands(kept.as_slice(), places.get(&mark).copied(), &child) {
+    let text = text_of(*kept.allocator(), &child)?;
+    if stands(kept.as_slice(), places.get(text.as_str()).copied(), &child) {
         return Ok(());
     }
     let place = kept.len();
     kept.push(child)?;
-    let _ = places.insert(mark, place)?;
+    let _ = places.insert(text, place)?;
     Ok(())
 }
 
@@ -134,7 +140,7 @@ fn put_copies(
     alloc: Global,
     joint: Joint,
     kept: &mut Vec<Rewrite>,
-    places: &mut BTreeMap<u64, usize>,
+    places: &mut BTreeMap<String, usize>,
     children: &Vec<Rewrite>,
 ) -> Result<(), AllocError>
     ensures { OnOk result (JoinPlain joint (map expression_of kept.new.items)
@@ -168,7 +174,7 @@ fn put_child(
     alloc: Global,
     joint: Joint,
     kept: &mut Vec<Rewrite>,
-    places: &mut BTreeMap<u64, usize>,
+    places: &mut BTreeMap<String, usize>,
     child: Rewrite,
 ) -> Result<(), AllocError>
     ensures { OnOk result (JoinPlain joint (map expression_of kept.new.items)
@@ -214,8 +220,8 @@ fn plain_joined(alloc: Global, joint: Joint, children: &Vec<Rewrite>) -> Result<
 }
 
 /// A rule that says the same: a union in a union is one with it, and an intersection in an intersection; no child
-/// stands twice; and one child stands alone. Each place is looked at once for each level above it, of which a rule
-/// that is declared has at most 32.
+/// stands twice; and one child stands alone. Each place is written once for each level above it, of which a rule that
+/// is declared has at most 32.
 #[cycle(plain_of)]
 pub fn plain_of(alloc: Global, rewrite: &Rewrite) -> Result<Rewrite, AllocError>
     ensures { IfOk result (λ r. IsPlainOf (expression_of r) (expression_of rewrite.now)) }

@@ -25,7 +25,8 @@ use Rattle.strata.specs.declared.edge.Edge.{Edge}
 use Rattle.strata.specs.Edges.{RelationName, Place, places, all_places, at_computed, edge_at, edges_in, relation_edges, relations_in, namespace_edges, last_relation_edges, last_edges, rule_edges, read_by_rule, stratum_numbered, is_broken, first_broken}
 use Rattle.strata.proofs.Lists.{Contains-here, Contains-there}
 use Rattle.strata.proofs.KeptEdges.{flat_same}
-use Rattle.strata.proofs.Newest.{position_cons, position_item, position_none, one_place, both_ok, names_more, name_kept, distinct_after, newest_decides}
+use Rattle.names.proofs.NamesLemmas.{position_cons}
+use Rattle.strata.proofs.Newest.{position_item, position_none, one_place, both_ok, names_more, name_kept, distinct_after, newest_decides}
 use Rattle.strata.proofs.Unbroken.{unbroken, edge_of_namespace, edge_of_rules, item_least, item_there}
 use Rattle.strata.proofs.Walks.{both, edges_joined, places_joined}
 

@@ -15,7 +15,8 @@ use Rattle.strata.specs.Edges.{RelationName, Place, at_this, at_computed, at_tup
 use Rattle.strata.proofs.KeptEdges.{IsKept, rules_same}
 use Rattle.strata.proofs.LastDeclared as last
 use Rattle.strata.proofs.LastDeclared.{names_kept, relations_last, all_unbroken}
-use Rattle.strata.proofs.Newest.{position_cons, position_item, both_ok, place_same, number_same, stratum_same, premise_named, relation_same, namespace_same}
+use Rattle.names.proofs.NamesLemmas.{position_cons}
+use Rattle.strata.proofs.Newest.{position_item, both_ok, place_same, number_same, stratum_same, premise_named, relation_same, namespace_same}
 use Rattle.strata.proofs.Unbroken.{unbroken, edge_of_namespace, item_least, item_there}
 use Rattle.strata.proofs.Walks.{both, edges_joined}
 

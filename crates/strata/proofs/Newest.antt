@@ -14,24 +14,12 @@ use Rattle.namespaces.proofs.Numbers.{item_at-place}
 use Rattle.strata.specs.declared.edge.Edge.{Edge}
 use Rattle.strata.specs.Edges.{RelationName, Place, at_this, at_computed, at_tuple_to, relation_edges, relations_in, namespace_edges, edges_of_namespace, rule_edges, read_by_rule, stratum_numbered, first_broken}
 use Rattle.strata.proofs.KeptEdges.{IsKept, flat_same, rules_same}
+use Rattle.names.proofs.NamesLemmas.{position_cons, position_more}
 use Rattle.strata.proofs.Walks.{both, edges_joined}
 
 -- ---- places in lists
 
-pub position_cons : {X : Type 0} (p : X → Bool) (x : X) (xs : List X) → position p (x ∷ xs) ≡ cond (p x) (Some 0) (option_map suc (position p xs))
-position_cons p x xs = by_bool (p x) (λ t. let some : nat_lt 0 (suc (length xs)) ≡ true = grind (arith, nat_tests) in rw (t, some) refl) (λ f. rw f (further (position_or_len p xs) (length xs)))
-  where
-    further : (i n : ℕ) → cond (nat_lt (1 + i) (suc n)) (Some (1 + i)) None ≡ option_map suc (cond (nat_lt i n) (Some i) None)
-    further i n = by_bool (nat_lt i n)
-        (λ t. let less : nat_lt (1 + i) (suc n) ≡ true = grind (arith, nat_tests) in let one : 1 + i ≡ suc i = omega arith in rw (t, less) (ap Some one))
-        (λ f. let past : nat_lt (1 + i) (suc n) ≡ false = grind (arith, nat_tests) in rw (f, past) refl)
-
 module _ {X : Type 0} (p : X → Bool) where
-  -- one item more that does not pass
-  position_more : (xs : List X) (y : X) → p y ≡ false → position p (xs ++ y ∷ []) ≡ position p xs
-  position_more [] y f = position_cons p y [] ∙ rw f refl
-  position_more (x ∷ xs) y f = position_cons p x (xs ++ y ∷ []) ∙ rw (position_more xs y f) (sym (position_cons p x xs))
-
   -- what stands at a position
   pub position_item : (xs : List X) (i : ℕ) → position p xs ≡ Some i → (x : X) × (slice_get xs i ≡ Some x) × (p x ≡ true)
   position_item [] i h = cc

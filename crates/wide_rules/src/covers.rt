@@ -9,10 +9,10 @@ ghost use Rattle.rewrites.specs.Parts.{computed_names, part_at, part_expression,
 ghost use Rattle.rewrites.specs.View.{expression_of};
 ghost use Rattle.wide_rules.specs.Asked.{AreCovers, AreCoversByPart, IsCoveredBy};
 
-use crate::declaring::name_at;
-use indexmap::IndexMap;
+use names::Names;
 use rewrites::{Part, Rewrite, Through};
 use std::alloc::{AllocError, Global};
+use std::collections::BTreeMap;
 
 /// Up to how many parts that read through one tupleset have no cover.
 const FEW_PARTS: usize = 8;
@@ -47,14 +47,12 @@ fn tupleset_of(part: &Part) -> Option<&String> {
 /// Puts the number of a part to those that read through its tupleset.
 fn put(
     alloc: Global,
-    groups: &mut IndexMap<String, Vec<usize>>,
+    groups: &mut BTreeMap<String, Vec<usize>>,
     tupleset: &String,
     number: usize,
 ) -> Result<(), AllocError> {
-    if let Some(index) = groups.get_index_of(tupleset.as_str()) {
-        if let Some(numbers) = groups.get_index_mut(index) {
-            numbers.push(number)?;
-        }
+    if let Some(numbers) = groups.get_mut(tupleset.as_str()) {
+        numbers.push(number)?;
         return Ok(());
     }
     let mut numbers = Vec::new(alloc);
@@ -64,8 +62,8 @@ fn put(
 }
 
 /// The numbers of the parts that read through each tupleset.
-fn groups_of(alloc: Global, parts: &[Part]) -> Result<IndexMap<String, Vec<usize>>, AllocError> {
-    let mut groups = IndexMap::new(alloc);
+fn groups_of(alloc: Global, parts: &[Part]) -> Result<BTreeMap<String, Vec<usize>>, AllocError> {
+    let mut groups = BTreeMap::new(alloc);
     for number in 0..parts.len() {
         if let Some(tupleset) = tupleset_of(&parts[number]) {
             put(alloc, &mut groups, tupleset, number)?;
@@ -83,13 +81,13 @@ fn read_too(cover: &mut Through, part: &Part) -> Result<(), AllocError> {
                 computed,
             },
         ) => {
-            let _ = cover.computed.insert(computed.clone()?, ())?;
+            let _ = cover.computed.put(computed.clone()?, ())?;
         }
         Part::Leaf(_) => {}
         Part::Through(through) => {
             for k in 0..through.computed.len() {
-                if let Some((name, _)) = through.computed.get_index(k) {
-                    let _ = cover.computed.insert(name.clone()?, ())?;
+                if let Some((name, _)) = through.computed.at(k) {
+                    let _ = cover.computed.put(name.clone()?, ())?;
                 }
             }
         }
@@ -106,7 +104,7 @@ fn cover_of(
 ) -> Result<Part, AllocError> {
     let mut cover = Through {
         tupleset: tupleset.clone()?,
-        computed: IndexMap::new(alloc),
+        computed: Names::new(alloc),
     };
     for number in numbers {
         if let Some(part) = parts.get(*number) {
@@ -144,10 +142,8 @@ impl Covers {
     /// Covers of those parts that read through one tupleset, for each.
     fn add_groups(&mut self, alloc: Global, parts: &[Part]) -> Result<(), AllocError> {
         let groups = groups_of(alloc, parts)?;
-        for k in 0..groups.len() {
-            if let Some((tupleset, numbers)) = groups.get_index(k) {
-                self.add_group(alloc, tupleset, parts, numbers)?;
-            }
+        for (tupleset, numbers) in groups.iter() {
+            self.add_group(alloc, tupleset, parts, numbers)?;
         }
         Ok(())
     }
@@ -200,7 +196,7 @@ fn reads_all(cover: &Through, through: &Through) -> bool
         → Contains (computed_names cover.now) c }
 {
     for k in 0..through.computed.len() {
-        let Some(name) = name_at(through, k) else {
+        let Some(name) = through.name(k) else {
             return false;
         };
         if !cover.reads(name) {

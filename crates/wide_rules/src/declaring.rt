@@ -12,21 +12,13 @@ use std::alloc::{AllocError, Global};
 use tuple_text::SetRef;
 use userset_index::Numbers;
 
-/// The name of a relation that is read, by its place.
-pub(crate) fn name_at(through: &Through, k: usize) -> Option<&str>
-    ensures { option_map (λ s. s.now) result ≡ slice_get (computed_names through.now) k }
-{
-    let (name, _) = through.computed.get_index(k)?;
-    Some(name.as_str())
-}
-
 /// Whether a namespace declares, at a timestamp, one of the relations that are read, asked for these: at most as many
 /// as it declares.
 fn declares_name(rules: &Rules, through: &Through, namespace: &str, at: u64) -> bool
     ensures { result ≡ false → DeclaresNone (rule_at rules.now at) (computed_names through.now) namespace.now }
 {
     for k in 0..through.computed.len() {
-        if let Some(relation) = name_at(through, k) {
+        if let Some(relation) = through.name(k) {
             let set = SetRef {
                 namespace,
                 id: "",

@@ -12,7 +12,7 @@ ghost use Rattle.wide_rules.specs.Declaring.{AreDeclaring};
 ghost use Rattle.wide_rules.specs.Kept.{AreLive};
 
 use crate::crowded::are_barred_by_index;
-use crate::declaring::{is_among, name_at};
+use crate::declaring::is_among;
 use judgement::{AskedFact, KnownFact, SetsOfUser, crowd_of, is_barred, is_led, is_out, under};
 use marks::MarkedSet;
 use rewrites::Through;
@@ -84,7 +84,7 @@ fn leads_at<F: KnownFact>(fact: &AskedFact<'_, F>, through: &Through, k: usize) 
     ensures none { (c : List ℕ) → slice_get (computed_names through.now) k ≡ Some c
         → IsLedFor fact.now (Some c) → IsTrue result }
 {
-    match name_at(through, k) {
+    match through.name(k) {
         Some(name) => is_led(fact, Some(name)),
         None => false,
     }
@@ -142,7 +142,7 @@ fn are_barred_one_by_one<F: KnownFact>(fact: &AskedFact<'_, F>, through: &Throug
     ensures { IsTrue result ↔ IsBarredBy fact.now (computed_names through.now) }
 {
     for k in 0..through.computed.len() {
-        if let Some(name) = name_at(through, k) {
+        if let Some(name) = through.name(k) {
             if !is_barred(fact, Some(name)) {
                 return false;
             }

@@ -1,15 +1,17 @@
-use Rattle.std.proofs.Common.{sym}
+use Rattle.std.proofs.Common.{◌≡◌, ◌∙◌, Some, option_map, slice_get, sym, ap}
+use Rattle.namespaces.specs.Index.{show_index}
 use Rattle.namespaces.proofs.Tables.{on_err_always}
-use Rattle.namespaces.proofs.Indexes.{show_index-set, show_index-same, with_revision_at-past}
+use Rattle.namespaces.proofs.Indexes.{put_back, put_back_more}
 use Rattle.namespaces.proofs.index.note_further.Goals as goal
 
-pub returns-in_err-push-clause-unchanged : goal.returns-in_err-push-clause-unchanged
-returns-in_err-push-clause-unchanged c =
-    let same = show_index-same c.args.namespaces.now.entries c.args.index c.in-Some.revisions.now c.push.new.self (sym c.in-Some.ensures.value) c.in_err-push.ensures.items in
-    on_err_always c.from_residual.result same
+pub returns-in_err-pushed-clause-unchanged : goal.returns-in_err-pushed-clause-unchanged
+returns-in_err-pushed-clause-unchanged c =
+    let es = c.args.namespaces.now.entries in
+    let same = put_back es c.args.index c.new.result c.replace-revisions.result c.push-pushed.new.self c.replace-revisions.ensures.was c.in_err-pushed.ensures.items in
+    on_err_always c.from_residual.result (ap show_index c.replace.ensures.new ∙ rw c.replace-revisions.ensures.new same)
 
-pub returns-in_ok-push-clause-ok : goal.returns-in_ok-push-clause-ok
-returns-in_ok-push-clause-ok c = show_index-set c.args.namespaces.now.entries c.args.index c.in-Some.revisions.now c.push.new.self c.args.revision (sym c.in-Some.ensures.value) c.in_ok-push.ensures.items
-
-pub returns-in_default-clause-ok : goal.returns-in_default-clause-ok
-returns-in_default-clause-ok c = with_revision_at-past c.args.namespaces.now.entries c.args.index c.args.revision (sym c.in_default.ensures.value)
+pub returns-clause-ok : goal.returns-clause-ok
+returns-clause-ok c =
+    let es = c.args.namespaces.now.entries in
+    ap show_index c.replace.ensures.new
+    ∙ rw c.replace-revisions.ensures.new (put_back_more es c.args.index c.new.result c.replace-revisions.result c.push-pushed.new.self c.replace-revisions.ensures.was c.args.revision c.in_ok-pushed.ensures.items)

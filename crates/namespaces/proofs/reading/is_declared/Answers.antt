@@ -3,4 +3,4 @@ use Rattle.namespaces.proofs.Tables.{name_found}
 use Rattle.namespaces.proofs.reading.is_declared.Goals as goal
 
 pub returns : goal.returns
-returns c = c.contains_key.ensures ∙ sym (name_found c.args.relation.now c.args.relations.now.entries)
+returns c = c.contains.ensures ∙ sym (name_found c.args.relation.now c.args.relations.now.entries)

@@ -10,5 +10,5 @@ returns-in_err-relations c =
 pub returns : goal.returns
 returns c =
     let r = c.args.set.relation.now in
-    rw (expression_in_force c.args.self.now c.args.at c.args.set.namespace.now r _ c.in_ok-relations.ensures.well_formed.continued c.in_ok-relations.ensures.relations, expression_found r c.in_ok-relations.relations.now.entries, ← c.value_in.ensures.value)
-    (expression_borrowed c.value_in.result)
+    rw (expression_in_force c.args.self.now c.args.at c.args.set.namespace.now r _ c.in_ok-relations.ensures.well_formed.continued c.in_ok-relations.ensures.relations, expression_found r c.in_ok-relations.relations.now.entries, ← c.get.ensures.value)
+    (expression_borrowed c.get.result)

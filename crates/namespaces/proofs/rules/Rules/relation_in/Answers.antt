@@ -16,5 +16,5 @@ returns c =
     rw (
       ← c.in_ok-relations_in.ensures,
       slice_get-map show_relation c.in_ok-relations_in.field-0.now.entries c.args.place.relation,
-      ← c.get_index.ensures.entry,
-    ) (mapped_twice _ show_relation c.get_index.result)
+      ← c.at.ensures.entry,
+    ) (mapped_twice _ show_relation c.at.result)

@@ -8,5 +8,5 @@ pub returns : goal.returns
 returns c =
     let q = c.args.name.now in
     let es = c.args.self.now.computed.entries in
-    let same = c.contains_key.ensures ∙ is_some-lookup (λ k. bytes_eq q (string_bytes k)) es in
+    let same = c.contains.ensures ∙ is_some-lookup (λ k. bytes_eq q (string_bytes k)) es in
     (λ t. there_named q es (sym same ∙ t), λ there. same ∙ named_there q es there)
