@@ -130,15 +130,15 @@ fn judgement_made(
     }
 }
 
-/// How many slices a worker takes, about, where a trace has many entries.
-const SLICES_EACH: usize = 16;
+/// Into how many slices the entries are cut, about, where a trace has many.
+const MOST_SLICES: usize = 64;
 
-/// The same crew, with slices so long that each worker takes few of them, however many entries there are: with each
+/// The same crew, with slices so long that there are few of them, however many entries and workers there are: with each
 /// slice the rules of many places are begun anew.
 fn with_few_slices(crew: Crew, entries: usize) -> Crew
     ensures { result.workers ≡ crew.workers }
 {
-    let share = entries / (crew.workers * SLICES_EACH);
+    let share = entries / MOST_SLICES;
     Crew {
         workers: crew.workers,
         slice: crew.slice.max(share),
@@ -217,7 +217,7 @@ fn audit_made_by<A: Source, W: Sink, R: Threads + Wait + Sync>(
 /// that is out of reach, and `F8` and `F9` nowhere. So it is whatever evidence is made.
 ///
 /// 1 to 16 workers, the calling thread among them, share the entries, in slices of `slice` entries, 1 to 4,096, or of
-/// more where a trace has so many that each worker would take over 16. Each makes the evidence for an entry, and judges
+/// more where a trace has so many that there would be over 64. Each makes the evidence for an entry, and judges
 /// the entry by it. Up to the end of the slice it keeps what it asked of rules of many places, and of the evidence what
 /// it made last for each userset and reply, of 32,768 facts at most or of one entry. No clause speaks of threads or of
 /// memory.

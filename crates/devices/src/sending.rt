@@ -5,9 +5,11 @@ ghost use Rattle.devices.specs.Given.{StandBehind};
 ghost use Rattle.devices.specs.Moves.{IsBrokenOff};
 
 use crate::source::Sink;
+use thiserror::Error;
 
 /// How many bytes went out before the writer failed, or took none.
-#[derive(Clone, Copy, Debug, PartialEq, Eq)]
+#[derive(Clone, Copy, Debug, PartialEq, Eq, Error)]
+#[error("write fault after {written} bytes")]
 pub struct Unsent {
     pub written: usize,
 }

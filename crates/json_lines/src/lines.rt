@@ -12,14 +12,18 @@ use memchr::memchr;
 use std::alloc::{AllocError, Global};
 use std::io;
 use std::marker::Model;
+use thiserror::Error;
 
 /// Why the bytes of an input ended before their end.
-#[derive(Clone, Copy, Debug, PartialEq, Eq)]
+#[derive(Clone, Copy, Debug, PartialEq, Eq, Error)]
 pub enum InputFault {
     /// The reader failed.
+    #[error("read fault")]
     Read,
     /// A line or the input is longer than it may be.
+    #[error("too long")]
     TooLong,
+    #[error("out of memory")]
     OutOfMemory,
 }
 

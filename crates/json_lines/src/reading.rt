@@ -9,16 +9,23 @@ use crate::lines::{CHUNK, InputFault, Lines};
 use crate::taking::{LineCause, TakeJson, take_line};
 use devices::Source;
 use std::alloc::Global;
+use std::fmt::Display;
+use thiserror::Error;
 
 /// Why reading stopped: the input, or what a line says.
-#[derive(Clone, Copy, Debug, PartialEq, Eq, Drop)]
+#[derive(Clone, Copy, Debug, PartialEq, Eq, Drop, Error)]
+#[error_bound(C: Display)]
 pub enum Stop<C> {
+    #[error("{0}")]
     Input(InputFault),
+    #[error("{0}")]
     Line(C),
 }
 
 /// The line at which reading stopped, from 1.
-#[derive(Clone, Copy, Debug, PartialEq, Eq, Drop)]
+#[derive(Clone, Copy, Debug, PartialEq, Eq, Drop, Error)]
+#[error_bound(C: Display)]
+#[error("line {line}: {stop}")]
 pub struct LineFault<C> {
     pub line: u64,
     pub stop: Stop<C>,

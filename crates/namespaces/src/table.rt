@@ -162,11 +162,7 @@ fn table_of(
 }
 
 /// Puts a relation last, if no relation has its name.
-fn put_new(
-    table: &mut Names<Relation>,
-    name: String,
-    relation: Relation,
-) -> Result<(), RulesFault>
+fn put_new(table: &mut Names<Relation>, name: String, relation: Relation) -> Result<(), RulesFault>
     ensures refused { Gives (λ u. u) result
         (if is_some (value_of (string_bytes name) table.old.entries) then Err RulesFault.RepeatedRelation else Ok (tt {0})) }
     ensures put { OnOk result (table.new.entries ≡ table.old.entries ++ (name, relation) ∷ []) }
@@ -224,10 +220,7 @@ fn is_over_limits(full: bool, relations: &Names<Relation>) -> bool
 
 /// Whether the new relations begin with the names of the old ones.
 #[tactic(auto, using(crate::proofs::Kept::names_step))]
-pub(crate) fn keeps_names(
-    old: &Names<Relation>,
-    new: &Names<Relation>,
-) -> bool
+pub(crate) fn keeps_names(old: &Names<Relation>, new: &Names<Relation>) -> bool
     ensures { result ≡ changing.keeps_names (show_relations old.now.entries) (show_relations new.now.entries) }
 {
     for index in 0..old.len() {
@@ -240,11 +233,7 @@ pub(crate) fn keeps_names(
 
 /// Whether the relation at a place keeps its name.
 #[tactic(auto, using(crate::proofs::Tables::shown_there))]
-fn keeps_name(
-    old: &Names<Relation>,
-    new: &Names<Relation>,
-    index: usize,
-) -> bool
+fn keeps_name(old: &Names<Relation>, new: &Names<Relation>, index: usize) -> bool
     ensures { result ≡ keeps_name_at (show_relations old.now.entries) (show_relations new.now.entries) index }
 {
     match (old.at(index), new.at(index)) {
@@ -255,10 +244,7 @@ fn keeps_name(
 
 /// Whether each old relation has the stratum of the new one in its place.
 #[tactic(auto, using(crate::proofs::Kept::strata_step))]
-pub(crate) fn keeps_strata(
-    old: &Names<Relation>,
-    new: &Names<Relation>,
-) -> bool
+pub(crate) fn keeps_strata(old: &Names<Relation>, new: &Names<Relation>) -> bool
     ensures { result ≡ changing.keeps_strata (show_relations old.now.entries) (show_relations new.now.entries) }
 {
     for index in 0..old.len() {
@@ -271,11 +257,7 @@ pub(crate) fn keeps_strata(
 
 /// Whether the relation at a place keeps its stratum, where it still is.
 #[tactic(auto, using(crate::proofs::Tables::shown_there))]
-fn keeps_stratum(
-    old: &Names<Relation>,
-    new: &Names<Relation>,
-    index: usize,
-) -> bool
+fn keeps_stratum(old: &Names<Relation>, new: &Names<Relation>, index: usize) -> bool
     ensures { result ≡ keeps_stratum_at (show_relations old.now.entries) (show_relations new.now.entries) index }
 {
     match (old.at(index), new.at(index)) {

@@ -7,6 +7,7 @@ ghost use Rattle.slice_core.specs.Opening.{IsAllowed, Refuses};
 use crate::opening::{OpenCause, refusal};
 use std::alloc::{AllocError, Global};
 use std::collections::VecDeque;
+use thiserror::Error;
 
 /// A step of one worker.
 #[derive(Clone, Copy, Debug, PartialEq, Eq)]
@@ -22,7 +23,8 @@ pub enum Event {
 }
 
 /// The worker, the lane, the hand or the slice of the event is not there.
-#[derive(Clone, Copy, Debug, PartialEq, Eq)]
+#[derive(Clone, Copy, Debug, PartialEq, Eq, Error)]
+#[error("no such worker, lane, hand or slice")]
 pub struct NotEnabled;
 
 /// Slice numbers, and where each of them stands.

@@ -2,16 +2,21 @@
 ghost use Rattle.std.specs.Prelude.{IfSome, IfNone};
 ghost use Rattle.slice_core.specs.Opening.{IsAllowed, Refuses};
 
+use thiserror::Error;
+
 /// The most workers that a yard has.
 pub const MOST_WORKERS: usize = 16;
 
 /// Why a yard was not opened.
-#[derive(Clone, Copy, Debug, PartialEq, Eq)]
+#[derive(Clone, Copy, Debug, PartialEq, Eq, Error)]
 pub enum OpenCause {
     /// It would have no lane.
+    #[error("no lane")]
     NoLane,
     /// It would have more lanes than workers, or more than 16 workers.
+    #[error("too many lanes")]
     TooManyLanes,
+    #[error("out of memory")]
     OutOfMemory,
 }
 

@@ -17,9 +17,11 @@ use crate::receipts::Receipts;
 use crate::slices::Slice;
 use slice_core::{OpenCause, refusal};
 use std::alloc::{AllocError, Global};
+use thiserror::Error;
 
 /// A refused opening hands its slices back, in their order.
-#[derive(Drop)]
+#[derive(Drop, Error)]
+#[error("{cause}")]
 pub struct OpenFault {
     pub cause: OpenCause,
     pub slices: Vec<Slice>,

@@ -149,8 +149,9 @@ impl UsersetIndex {
     /// Makes the index of a store under these rules.
     ///
     /// It takes time in the logarithm of the touches for each touch of a userset, and of its memory some 210 bytes for
-    /// each that adds one to a crowded userset. Where a rule of many places reads tuplesets, it takes some 100 bytes
-    /// more for each touch that adds a userset, and for each that ends one.
+    /// each that adds one to a crowded userset. Where a rule of many places reads tuplesets, or where some userset is
+    /// crowded and more than 16 namespaces are declared, it takes some 100 bytes more for each touch that adds a
+    /// userset, and for each that ends one.
     pub fn of(alloc: Global, chains: &Chains, rules: &Rules) -> Result<UsersetIndex, AllocError>
         ensures { IfOk result (λ index. IsUsersetIndex rules.now chains.now.commits index) }
     {
@@ -203,7 +204,8 @@ impl UsersetIndex {
     }
 
     /// The namespaces of the usersets that are stored in a userset at a timestamp, and maybe others. `None` where
-    /// that was not noted: it is for a trace in which a rule of many places reads tuplesets.
+    /// that was not noted: it is for a trace in which a rule of many places reads tuplesets, or many namespaces are
+    /// declared.
     pub fn namespaces(&self, set: MarkedSet<'_>, at: u64) -> Option<Numbers>
         ensures { IfSome result (AreNamespaces self.now (set_value set.entry.set) at) }
     {

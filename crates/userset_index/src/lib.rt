@@ -13,7 +13,7 @@
 //! ([`UsersetIndex::through`]), as touches of the changelog. It may give others, since usersets may share a mark: who
 //! asks looks of which userset a touch is. What `own` and `through` give is stored then, and comes once (`AreExact`).
 //! Of any userset it says of which namespaces usersets are stored there, and maybe of others
-//! ([`UsersetIndex::namespaces`]), in a trace that has a rule which may ask for many.
+//! ([`UsersetIndex::namespaces`]), in a trace in which many may be asked for.
 //!
 //! ```text
 //! let index = UsersetIndex::of(alloc, &chains, &rules)?;

@@ -22,6 +22,9 @@ use version_chains::{Chains, TouchRef};
 /// How many relations a declaration has at most.
 const MOST_RELATIONS: usize = 256;
 
+/// Up to how many namespaces are all looked at for a crowded tupleset, which is quicker than to note which matter.
+const FEW_NAMESPACES: u16 = 16;
+
 /// How many slots there are for namespaces, by their numbers.
 const SLOTS: u16 = 256;
 
@@ -283,6 +286,12 @@ fn is_any_wide(rules: &Rules) -> bool {
     false
 }
 
+/// Whether it is worth noting what is stored in crowded usersets: a rule of many places reads tuplesets, or for each
+/// look at a crowded tupleset many namespaces would be looked at. No answer rests on it.
+fn is_worth_noting(rules: &Rules) -> bool {
+    rules.namespace(FEW_NAMESPACES + 1).is_some() || is_any_wide(rules)
+}
+
 impl Times {
     /// None, of which nothing was noted.
     pub(crate) fn new(alloc: Global) -> Times
@@ -295,7 +304,8 @@ impl Times {
         }
     }
 
-    /// Those of a store under these rules. Where no rule of many places reads tuplesets they are not noted.
+    /// Those of a store under these rules in which some userset is crowded. Where no rule of many places reads
+    /// tuplesets, and few namespaces are declared, they are not noted.
     pub(crate) fn of(
         alloc: Global,
         chains: &Chains,
@@ -306,7 +316,7 @@ impl Times {
         ensures { IfOk result (λ t. t.is_whole ≡ true
             → HaveMoments rules.now (changelog chains.now.commits) t.moments t.numbers.items) }
     {
-        if !is_any_wide(rules) {
+        if !is_worth_noting(rules) {
             return Ok(Times::new(alloc));
         }
         let all = all_moments(alloc, chains, rules, ends)?;
@@ -317,7 +327,7 @@ impl Times {
         })
     }
 
-    /// The same where the ends of touches serve nothing else.
+    /// The same of a store in which none is crowded, where a rule of many places reads tuplesets.
     pub(crate) fn alone(alloc: Global, chains: &Chains, rules: &Rules) -> Result<Times, AllocError>
         ensures { IfOk result (λ t. t.is_whole ≡ true
             → HaveMoments rules.now (changelog chains.now.commits) t.moments t.numbers.items) }
