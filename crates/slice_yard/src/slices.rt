@@ -6,7 +6,7 @@ ghost use Rattle.std.specs.List.{range_with_len};
 use std::alloc::{AllocError, Global};
 
 /// A run of entries with a number. It is made by `cut` alone, and is not copied.
-#[derive(Drop)]
+#[derive(Debug, Drop)]
 pub struct Slice {
     pub(crate) number: usize,
     pub(crate) from: usize,

@@ -20,7 +20,7 @@ use std::alloc::{AllocError, Global};
 use thiserror::Error;
 
 /// A refused opening hands its slices back, in their order.
-#[derive(Drop, Error)]
+#[derive(Debug, Drop, Error)]
 #[error("{cause}")]
 pub struct OpenFault {
     pub cause: OpenCause,
