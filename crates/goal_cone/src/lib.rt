@@ -10,6 +10,8 @@
 //! (`AreTargets`), where it is given the namespaces that declare them; [`Leaves`] notes these with each part of a rule
 //! (`IsNoted`).
 //!
+//! [`find_path`] seeks a short proof: a path of rules from the goal to a stored user. Nothing is promised of it.
+//!
 //! What a call costs is no promise. It recurs over rules alone, never over facts; its memory is that of the cone, and a
 //! look-up among facts goes by their marks. What is stored in a tupleset is gone over once for all relations that a
 //! rule reads through it, and where many usersets were stored there, what is dead or declares none of them is not.
@@ -24,6 +26,7 @@
 mod cone;
 mod fault;
 mod leaves;
+mod path;
 mod premises;
 mod seen;
 mod through;
@@ -31,5 +34,6 @@ mod through;
 pub use cone::{explore, explore_by};
 pub use fault::ConeFault;
 pub use leaves::{Leaves, ReadPart};
+pub use path::find_path;
 pub use premises::{MAX_LINKS, MAX_USERSETS};
 pub use through::targets;
