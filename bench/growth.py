@@ -1,10 +1,11 @@
 #!/usr/bin/env python3
 """How the cost of an input grows: kinds of a generator of this folder at several sizes, as a table.
 
-    python3 bench/growth.py [--runs N | --count] [--make | --audit-make] PROGRAM trace|hostile SIZE [SIZE ..] [KIND ..] > table
+    python3 bench/growth.py [--runs N | --count] [--make | --audit-make | --audit-slices] PROGRAM trace|hostile SIZE [SIZE ..] [KIND ..] > table
 
 With --make the program makes evidence for the trace in front of the parting line, in place of an audit; of the kinds that are for that
-it always does. With --audit-make it audits that trace by evidence that it makes, on one worker.
+it always does. With --audit-make it audits that trace by evidence that it makes, on one worker; with --audit-slices on sixteen, in the
+shortest slices.
 
 Sizes are megabytes. Seconds are processor time, the least of N runs, or of three; memory is the most that the program held, in MB. The column
 behind the seconds says what a megabyte costs there, and the one behind the memory, from the second size on, how many times as much a megabyte
@@ -28,9 +29,14 @@ import trace
 
 GENERATORS = {"trace": trace, "hostile": hostile}
 COUNTING = ["valgrind", "--tool=callgrind", "--callgrind-out-file=/dev/null"]
-# What the program may do with an input, and by which words. The last two take its trace alone.
-AUDIT, MAKE, AUDIT_MAKE = "audit", "make", "audit --make"
-WORDS: Dict[str, List[str]] = {AUDIT: [], MAKE: ["make", "/dev/stdin"], AUDIT_MAKE: ["audit", "/dev/stdin", "--make"]}
+# What the program may do with an input, and by which words. All but the first take its trace alone.
+AUDIT, MAKE, AUDIT_MAKE, AUDIT_SLICES = "audit", "make", "audit --make", "audit --make --workers 16 --slice 1"
+WORDS: Dict[str, List[str]] = {
+    AUDIT: [],
+    MAKE: ["make", "/dev/stdin"],
+    AUDIT_MAKE: ["audit", "/dev/stdin", "--make"],
+    AUDIT_SLICES: ["audit", "/dev/stdin", "--make", "--workers", "16", "--slice", "1"],
+}
 
 
 class TooLong(Exception):
@@ -126,6 +132,7 @@ def main() -> None:
     makes = parser.add_mutually_exclusive_group()
     makes.add_argument("--make", action="store_const", dest="does", const=MAKE, default=AUDIT)
     makes.add_argument("--audit-make", action="store_const", dest="does", const=AUDIT_MAKE)
+    makes.add_argument("--audit-slices", action="store_const", dest="does", const=AUDIT_SLICES)
     parser.add_argument("program", metavar="PROGRAM")
     parser.add_argument("generator", choices=GENERATORS)
     parser.add_argument("words", metavar="SIZE|KIND", nargs="+")

@@ -52,6 +52,17 @@ KIND is one of
   same_object_in_turn      the same, where each userset is removed when the next is added, and a record at each snapshot, in random order
   same_object_overlapping  the same, where each userset stays until a fifth of them are added behind it
   wide_folders   as `wide_through`, and each fact is of another object, in whose tupleset a userset is stored
+  chosen_leaves  an intersection that reads two relations through a tupleset in turn, whose marks agree, and users who are in both
+  chosen_relations  as `wide_through`, where the names of the relations have one hash, as has each of 250 that the userset's namespace declares
+  many_namespaces   a narrow rule through two tuplesets of 17 usersets, and 254 namespaces that declare what is read and of which nothing is stored
+  chosen_namespaces  the same, and the names of the namespaces have one hash
+  chosen_users   such namespaces, and stored usersets of others with that hash, which nobody declares
+  beyond_first   usersets that were added and removed again, and a user of 70 groups, who is let in by the last of 250 relations
+  live_grid      objects that all store the same groups, 250 relations that each read a member of these, and users who are in none
+  known_grid     the same, and a user of the group that was stored first, and of as many others that are stored nowhere
+  known_through  as `wide_users`, with many documents, and one user who is known to be in many groups
+  asked_changes  changes of a rule through 17 tuplesets, and a check that asks it behind each of them
+  moments        a wide rule through a tupleset, and objects that each store 100 usersets there
   ring           groups in a circle, and checks that each of many strangers is not in it: for `make`
   wide_make      a rule of many places that compute one relation, and objects in a chain of such rules: for `make`
   nested_make    a rule of many intersections, and objects in a chain of such rules: for `make`
@@ -63,6 +74,9 @@ KIND is one of
   wide_groups    a rule of `this` and many relations through one tupleset, and objects that each store one group: for `make`
   many_make      a rule of one relation through many tuplesets, in each of which 17 usersets are stored, and checks of two such objects in turn: for `make`
   small_sets     a rule of 60 relations through each of many tuplesets, in each of which 16 usersets are stored, and checks of two such objects in turn: for `make`
+  three_steps    a group of many groups of one group each, and checks that users of the last are in the first: for `make`
+  given_up       objects in a chain, relations that each read others, and checks of what no record can say: for `make`
+  minus_make     objects in a chain that each have whom the next one has and a wide rule has not: for `make`
   toggled        one tuple added and removed in every other commit, and checks at old snapshots
   ids            one group of users alone, and checks that a stranger is not in it
   chain          records of one chain of groups each, as long as a record may be: from the last group on
@@ -180,11 +194,11 @@ def more_kinds(size):
     return given
 
 
-def nested(leaves):
-    """A union of many places: one has at most 64 children."""
+def nested(leaves, joint="union"):
+    """A union of many places, or an intersection: one has at most 64 children."""
     while len(leaves) > 64:
-        leaves = [{"union": leaves[k:k + 64]} for k in range(0, len(leaves), 64)]
-    return {"union": leaves}
+        leaves = [{joint: leaves[k:k + 64]} for k in range(0, len(leaves), 64)]
+    return {joint: leaves}
 
 
 def wide(size):
@@ -715,6 +729,155 @@ def wide_folders(size):
     return given
 
 
+# Two names whose marks in `rewrites` agree, where they are read through a tupleset of the name `p`.
+ALIKE = ("jv6x0huu_i", "bxhl4kygyb")
+
+
+def chosen_leaves(size):
+    """The userset that lets users in was stored before 15 others, so that it is looked at last."""
+    leaves = [{"tuple_to": {"tupleset": "p", "computed": ALIKE[k % 2]}} for k in range(min(size // 3, LINE * 9 // 10) // 53)]
+    given = Input(size, [{"name": "d", "relations": [relation("p"), relation("v", nested(leaves, "intersection"))]},
+                         {"name": "n", "relations": [*map(relation, ALIKE)]}])
+    given.bytes = len(given.lines[0])
+    given.commit([f"d:a#p@n:{k}#..." for k in range(16)])
+    user = 0
+    while not given.is_full():
+        users = range(user, user + min(max((given.size - given.bytes) // 140, 1), 5000))
+        given.commit([f"n:0#{name}@{one}" for one in users for name in ALIKE])
+        given.check(f"d:a#v@{user}", True, [{"yes": f"{goal}@{one}"} for one in users for goal in (*(f"n:0#{name}" for name in ALIKE), "d:a#v")])
+        user += len(users)
+    return given
+
+
+def of_one_hash(count, first=0):
+    """Names that the kit's tables give one hash: it folds the first 16 bytes to the next eight, and so multiplies by 0 whatever follows."""
+    return ["aaaaaaaaaaaato0uspu4yoas%08d" % k for k in range(first, first + count)]
+
+
+def chosen_relations(size):
+    read = of_one_hash(min(size // 3, LINE * 8 // 10) // 75)
+    rule = nested(through_parent(read))
+    unread = of_one_hash(249, 10**6)
+    given = Input(size, [{"name": "doc", "relations": [relation("parent"), relation("viewer", rule)]},
+                         {"name": "n", "relations": [*map(relation, [read[0], *unread])]}])
+    given.bytes = sum(map(len, given.lines))
+    given.commit(["doc:a#parent@n:p#..."])
+    user = 0
+    while not given.is_full():
+        users = range(user, user + min(max((given.size - given.bytes) // 80, 1), 10000))
+        refused(given, [f"{goal}@{one}" for one in users for goal in ("doc:a#viewer", f"n:p#{read[0]}")])
+        user += len(users)
+    return given
+
+
+def many_namespaces(size, names=tuple(f"n{k}" for k in range(254))):
+    rule = {"union": [{"tuple_to": {"tupleset": name, "computed": "m"}} for name in "pq"]}
+    others = [{"name": name, "relations": [relation("m")]} for name in names]
+    given = Input(size, [{"name": "doc", "relations": [*map(relation, "pq"), relation("viewer", rule)]}, *others])
+    given.bytes = sum(map(len, given.lines))
+    for name in "pq":
+        given.commit([f"doc:a#{name}@ghost:{k}#m" for k in range(17)])
+    return asked_of_many(given)
+
+
+def chosen_users(size):
+    others = [{"name": name, "relations": [relation("m")]} for name in of_one_hash(255)]
+    given = Input(size, [{"name": "doc", "relations": [relation("viewer")]}, *others])
+    given.bytes = sum(map(len, given.lines))
+    given.commit([f"doc:a#viewer@{name}:b#m" for name in of_one_hash(16, 1000)])
+    return asked_of_many(given)
+
+
+def beyond_first(size):
+    """The folder that lets the user in was known first, and stored first, so that it is looked at last."""
+    names = [f"r{k}" for k in range(250)]
+    rule = nested([{"tuple_to": {"tupleset": "p", "computed": name}} for name in names])
+    given = Input(size, [{"name": "d", "relations": [relation("p"), relation("v", rule)]},
+                         {"name": "f", "relations": [relation(names[-1])]}, {"name": "g", "relations": [relation("m")]}])
+    given.bytes = sum(map(len, given.lines))
+    known = [f"f:0#{names[-1]}@1", *(f"g:{k}#m@1" for k in range(69))]
+    given.commit([*known, "d:a#p@f:0#..."])
+    k = 1
+    while given.bytes < size // 2:
+        some = [f"d:a#p@f:{j}#..." for j in range(k, k + 100)]
+        given.commit(some)
+        given.commit([], some)
+        k += 100
+    while not given.is_full():
+        given.check("d:a#v@1", True, [{"yes": fact} for fact in [*known, "d:a#v@1"]])
+    return given
+
+
+def grid(size):
+    """Objects that each store the same groups, and relations that each read a member of these: as many groups as relations of all objects."""
+    objects = max(round((size / 3 / 250 / 22) ** 0.5), 1)
+    names = [f"v{k}" for k in range(250)]
+    rule = {"tuple_to": {"tupleset": "p", "computed": "m"}}
+    given = Input(size, [{"name": "d", "relations": [relation("p"), *(relation(name, rule) for name in names)]},
+                         *({"name": name, "relations": [relation("m")]} for name in "go")])
+    given.bytes = sum(map(len, given.lines))
+    groups = [f"g:{k}#m" for k in range(min(250 * objects, size // 66))]
+    for one in range(objects):
+        given.commit([f"d:{one}#p@{group}" for group in groups])
+    return given, objects, names, groups
+
+
+def live_grid(size):
+    given, objects, names, groups = grid(size)
+    user = 0
+    while not given.is_full():
+        refused(given, [f"{goal}@{user}" for goal in [*(f"d:{one}#{name}" for one in range(objects) for name in names), *groups]])
+        user += 1
+    return given
+
+
+def known_grid(size):
+    given, objects, names, groups = grid(size)
+    others = [f"o:{k}#m@1" for k in range(len(groups))]
+    given.commit([f"{groups[0]}@1", *others])
+    while not given.is_full():
+        facts = [f"{groups[0]}@1", *others, *(f"d:{one}#{name}@1" for one in range(objects) for name in names)]
+        given.check("d:0#v0@1", True, [{"yes": fact} for fact in facts])
+    return given
+
+
+def known_through(size):
+    """The relation of the rule by which the user is let in was known first, so that it is looked at last."""
+    given = through_many(size, "last", names=1)
+    known = ["doc:p#last@1", *(f"n0:{k}#m@1" for k in range(min(size // 4, LINE // 2) // 40))]
+    given.commit(known)
+    document = 0
+    while not given.is_full():
+        documents = range(document, document + min(max((size - given.bytes) // 60, 1), 5000))
+        given.commit([f"doc:{one}#parent@doc:p#parent" for one in documents])
+        given.check(f"doc:{document}#viewer@1", True, [{"yes": fact} for fact in [*known, *(f"doc:{one}#viewer@1" for one in documents)]])
+        document += len(documents)
+    return given
+
+
+def asked_changes(size):
+    """Each of 17 tuplesets is a part of its own."""
+    sets = "abcdefghijklmnopq"
+    relations = [*map(relation, sets), relation("v", {"union": [{"tuple_to": {"tupleset": name, "computed": "x"}} for name in sets]})]
+    given = Input(size, [{"name": "d", "relations": relations}])
+    while not given.is_full() and given.at < 4000:
+        given.at += 1
+        given.line({"kind": "namespace", "at": given.at, "name": "d", "relations": relations})
+        refused(given, ["d:x#v@1"])
+    return given
+
+
+def moments(size):
+    rule = {"union": [{"tuple_to": {"tupleset": "p", "computed": name}} for name in "abc"]}
+    given = Input(size, [{"name": "d", "relations": [relation("p"), relation("v", rule)]}])
+    given.check("d:0#v@1", False, [{"no": ["d:0#v@1"]}], 0)
+    k = 0
+    while not given.is_full():
+        given.commit([f"d:{k:x}#p@d:{j:x}#p" for j in range(100)])
+        k += 1
+    return given
+
+
 def ring(size):
     groups = size // 150
     given = Input(size, [{"name": "group", "relations": [relation("member")]}])
@@ -856,6 +1019,53 @@ def small_sets(size):
     return denied_in_turn(given, size // 240)
 
 
+def three_steps(size):
+    given = Input(size, [{"name": "g", "relations": [relation("m")]}])
+    count = size // 2 // 80
+    for k in range(0, count, 100):
+        groups = range(k, min(k + 100, count))
+        given.commit([one for j in groups for one in (f"g:all#m@g:{j}#m", f"g:{j}#m@g:{j}/in#m", f"g:{j}/in#m@{j}")])
+    user = 0
+    while not given.is_full():
+        given.check(f"g:all#m@{user % count}", True, [])
+        user += 1
+    return given
+
+
+def given_up(size):
+    """From 0.05 MB on a cone has some 125,000 facts, and a record would have to say them all. Each relation reads up to 15 others."""
+    names = [f"r{k}" for k in range(min(size // 100, 250) + 1)]
+    count = min(max(size // 12000, 1), 15)
+    rules = [{"union": [{"computed": name} for name in (names * 2)[k + 1:k + 1 + count]]} for k in range(len(names) - 1)]
+    last = {"tuple_to": {"tupleset": "p", "computed": "r0"}}
+    given = Input(size, [{"name": "d", "relations": [relation("p"), *map(relation, names, [*rules, last])]}])
+    given.bytes = len(given.lines[0])
+    given.commit([f"d:{k}#p@d:{k + 1}#p" for k in range(min(size // 100, 500))])
+    user = 0
+    while user == 0 or not given.is_full():
+        given.check(f"d:0#r0@{user}", False, [])
+        user += 1
+    return given
+
+
+def minus_make(size):
+    """From 0.05 MB on a cone has some 125,000 facts, of which a record would have to say too many."""
+    objects = min(size * 2 // 3 // 22, 12000)
+    names = [f"r{k}" for k in range(min(max(125000 // objects - 1, 9), 250, size // 200))]
+    places = [{"intersection": [{"computed": one}, {"computed": other}]} for one, other in zip(names, names[1:])]
+    rule = {"exclusion": {"base": {"union": [THIS, {"tuple_to": {"tupleset": "p", "computed": "v"}}]}, "subtract": nested(places)}}
+    given = Input(size, [{"name": "d", "relations": [*map(relation, ["p", *names]), {**relation("v", rule), "stratum": 1}]}])
+    given.bytes = len(given.lines[0])
+    chain = 0
+    while not given.is_full():
+        for k in range(0, objects, 20):
+            given.commit([f"d:{chain}/{j}#p@d:{chain}/{j + 1}#p" for j in range(k, k + 20)])
+        given.commit([f"d:{chain}/{objects - 1}#v@1"])
+        given.check(f"d:{chain}/0#v@1", True, [])
+        chain += 1
+    return given
+
+
 def toggled(size):
     given = Input(size, [{"name": "doc", "relations": [relation("viewer")]}])
     goal = "doc:readme#viewer@10"
@@ -983,6 +1193,17 @@ KINDS = {
     "same_object_in_turn": lambda size: same_object_for(size, 1),
     "same_object_overlapping": lambda size: same_object_for(size, max(size // 1000, 1)),
     "wide_folders": wide_folders,
+    "chosen_leaves": chosen_leaves,
+    "chosen_relations": chosen_relations,
+    "many_namespaces": many_namespaces,
+    "chosen_namespaces": lambda size: many_namespaces(size, of_one_hash(254)),
+    "chosen_users": chosen_users,
+    "beyond_first": beyond_first,
+    "live_grid": live_grid,
+    "known_grid": known_grid,
+    "known_through": known_through,
+    "asked_changes": asked_changes,
+    "moments": moments,
     "ring": ring,
     "wide_make": wide_make,
     "nested_make": nested_make,
@@ -994,6 +1215,9 @@ KINDS = {
     "wide_groups": wide_groups,
     "many_make": many_make,
     "small_sets": small_sets,
+    "three_steps": three_steps,
+    "given_up": given_up,
+    "minus_make": minus_make,
     "toggled": toggled,
     "ids": ids,
     "chain": lambda size: rings(size, 1, False),
@@ -1008,7 +1232,8 @@ KINDS = {
 }
 
 # Those whose evidence the auditor makes: they have none.
-FOR_MAKE = ("ring", "wide_make", "nested_make", "through_make", "few_make", "each_declares", "unread_through", "late_through", "wide_groups", "many_make", "small_sets")
+FOR_MAKE = ("ring", "wide_make", "nested_make", "through_make", "few_make", "each_declares", "unread_through", "late_through", "wide_groups", "many_make", "small_sets",
+            "three_steps", "given_up", "minus_make")
 
 
 def main():

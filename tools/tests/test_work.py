@@ -66,7 +66,7 @@ class Counted(Case):
         self.assertLessEqual(set(named), set(kinds))
 
     def test_the_commands_of_growth_py(self) -> None:
-        for words, count in ((), 1), (("--make",), 3), (("--audit-make",), 4):
+        for words, count in ((), 1), (("--make",), 3), (("--audit-make",), 4), (("--audit-slices",), 8):
             run = self.run_with(WORDS, os.path.join("bench", "growth.py"), "--count", *words, "program", "hostile", "0.01", "toggled")
             self.assertRegex(run.stdout, r"\| 0\.0 \| %d\.0 \| \d+ \|\n$" % count)
 
