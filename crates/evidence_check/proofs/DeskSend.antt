@@ -15,7 +15,7 @@ use Rattle.wide_rules.specs.contracts.asking.Parts as parts
 use Rattle.wide_rules.specs.contracts.asked_rule.AskedRule as asked_rule
 use Rattle.evidence_check.specs.contracts.asked_rules.AskedRules as asked_rules
 use Rattle.evidence_check.specs.contracts.blocks.Desk as desk
-use Rattle.evidence_check.proofs.TraceSync.{chains_sync, parted_sync, rules_sync, through_sync, trace_sync, usersets_sync}
+use Rattle.evidence_check.proofs.TraceSync.{chains_sync, parted_sync, rules_sync, trace_sync, usersets_sync}
 
 answers_send : IsSend answers.the_row
 answers_send = search (sendable, crosses) depth 40 fits 100000
@@ -30,7 +30,7 @@ paths_send : IsSend paths.the_row
 paths_send = search (sendable, crosses, path_send) depth 40 fits 100000
 
 part_sync : IsSync part.the_row
-part_sync = search (sendable, crosses, sync-Rewrite, through_sync) depth 40 fits 100000
+part_sync = search (sendable, crosses, maps.crosses, sync-Rewrite) depth 40 fits 100000
 
 part_send : IsSend part.the_row
 part_send = search (sendable, crosses, maps.crosses, send-Rewrite) depth 40 fits 100000

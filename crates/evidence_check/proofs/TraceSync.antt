@@ -8,7 +8,6 @@ use Rattle.version_chains.specs.contracts.arena.Arena as arena
 use Rattle.version_chains.specs.contracts.chains.Chains as chains
 use Rattle.rewrites.proofs.rewrite.Rewrite.TheLaws.TheKnot.{sync-Rewrite}
 use Rattle.rewrites.proofs.parts.Node.TheLaws.TheKnot.{sync-Node}
-use Rattle.rewrites.specs.contracts.parts.Through as through
 use Rattle.rewrites.specs.contracts.parts.PartedRule as parted
 use Rattle.namespaces.specs.contracts.relation.PlainRule as plain
 use Rattle.namespaces.specs.contracts.relation.Relation as relation
@@ -32,11 +31,8 @@ arena_sync = search (sendable, crosses, maps.crosses, tuple_sync, places_sync) d
 pub chains_sync : IsSync chains.the_row
 chains_sync = search (sendable, crosses, maps.crosses, arena_sync) depth 40
 
-pub through_sync : IsSync through.the_row
-through_sync = search (sendable, crosses, maps.crosses) depth 40 fits 100000
-
 pub parted_sync : IsSync parted.the_row
-parted_sync = search (sendable, crosses, maps.crosses, sync-Rewrite, sync-Node, through_sync) depth 40 fits 100000
+parted_sync = search (sendable, crosses, maps.crosses, sync-Rewrite, sync-Node) depth 40 fits 100000
 
 plain_sync : IsSync (plain.the_field).row
 plain_sync = search (sendable, crosses, maps.crosses, sync-Rewrite, parted_sync) depth 40 fits 100000
