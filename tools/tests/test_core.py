@@ -144,7 +144,7 @@ class Order(CoreCase):
         return ("events", "--from-empty", *words, self.given(RULES, *first, name="one"), self.given(*second, name="two"))
 
     def test_one_sequencer(self):
-        self.imported(*self.two(first=[write(1, rel(), sequence=2), write(2, sequence=9)], second=[check(1, sequence=5)]))
+        self.imported(*self.two(first=[write(1, rel(), sequence=2), write(2, sequence=4)], second=[check(1, sequence=3)]))
         self.assertEqual([row["kind"] for row in self.rows("trace.jsonl")], ["namespace", "commit", "check", "commit"])
 
     def test_files_without_an_order(self):

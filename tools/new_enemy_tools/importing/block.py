@@ -90,13 +90,14 @@ class Columns:
         self.times += [b""] * (len(self.lines) - len(self.times))
         self.times.append(time)
 
-    def note_line(self, shape: Shape, found: re.Match[bytes], is_check: bool) -> None:
+    def note_line(self, line: int, shape: Shape, found: re.Match[bytes], is_check: bool) -> None:
         """Notes the sequence of the line that is next."""
         if not shape.sequence:
             self.has_all = False
             return
         sequence = int(found[shape.sequence])
         self.facts.note_sequence((sequence, 0))
+        self.facts.numbers.add(sequence, self.path, line)
         if is_check:
             self.sequences += [-1] * (len(self.lines) - len(self.sequences))
             self.sequences.append(sequence)
@@ -212,7 +213,7 @@ class Reader:
             if time:
                 columns.add_time(time)
             if shape.sequence or columns.has_all:
-                columns.note_line(shape, found, True)
+                columns.note_line(number, shape, found, True)
             of, thing, relation, user_type, user_id = found.group(*shape.goal)
             pair = pairs.get((of, relation))
             put_pair(columns.add_names(of, relation) if pair is None else pair)
@@ -225,7 +226,7 @@ class Reader:
         """Takes a line that is no check; False where it has to be read in full."""
         rows = self._writes(number, shape, found, time) if shape.kind == "write" else self._content(number, shape, found, time)
         if rows:
-            columns.note_line(shape, found, False)
+            columns.note_line(number, shape, found, False)
             for row in rows:
                 columns.add_usual(row)
         return bool(rows)

@@ -31,7 +31,7 @@ def unwrapped(value: Any, keys: Iterable[str]) -> Any:
     if not isinstance(value, dict):
         return value
     data = value.get("data")
-    if _is_event(value):
+    if is_event(value):
         found = {key: get(data, key) for key in ("request", "response", "error", "status")}
         added = both(added_in(data), added_in(value), "the event and its `data`")
         return _filled({**found, "time": value.get("time"), "method": value.get("type"), **added})
@@ -45,8 +45,9 @@ def unwrapped(value: Any, keys: Iterable[str]) -> Any:
     return _filled({**found, **given})
 
 
-def _is_event(value: dict[str, Any]) -> bool:
-    return "specversion" in value and isinstance(value.get("data"), dict)
+def is_event(value: Any) -> bool:
+    """Whether a line is an event of CloudEvents."""
+    return isinstance(value, dict) and "specversion" in value and isinstance(value.get("data"), dict)
 
 
 def added_in(value: dict[str, Any]) -> dict[str, Any]:
@@ -66,7 +67,7 @@ def mistyped(value: Any) -> Iterator[Unread]:
     """Keys of a printed line that are no keys of a server, but a recorder's with a slip: nobody would read them."""
     if not isinstance(value, dict):
         return
-    data = value["data"] if _is_event(value) else {}
+    data = value["data"] if is_event(value) else {}
     if not data and not Joining.takes(value) and "raw_request" not in value:
         return
     for part in (value, data):

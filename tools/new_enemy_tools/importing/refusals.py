@@ -4,6 +4,7 @@ from collections import Counter
 from typing import TYPE_CHECKING, NamedTuple, Optional
 
 from new_enemy_tools.coverage import Coverage, counted
+from new_enemy_tools.importing.numbers import Numbers
 
 if TYPE_CHECKING:
     from new_enemy_tools.importing.events import Entry
@@ -57,6 +58,8 @@ class Refusals:
         self.stores: dict[str, tuple[str, int]] = {}
         self.doubts: list[tuple[str, Optional[str], str]] = []
         self.versions: set[tuple[str, str, str]] = set()
+        # the numbers of a sequencer that lines have which were read in full
+        self.numbers = Numbers()
         # whether a content check was left out of which it is not known what it issued
         self.has_lost_version = False
 
@@ -77,6 +80,7 @@ class Refusals:
         self.updated += other.updated
         self.deleted += other.deleted
         self.pages += other.pages
+        self.numbers.merge(other.numbers)
         for call, place in other.unseen.items():
             self.unseen.setdefault(call, place)
         for store, place in other.stores.items():

@@ -8,7 +8,7 @@ from new_enemy_tools.importing.block import Reader, Usual, When
 from new_enemy_tools.importing.called import with_calls
 from new_enemy_tools.importing.carried import Blocks, Carried, Otherwise, is_as_read
 from new_enemy_tools.importing.checks import NEWEST, Look, Row
-from new_enemy_tools.importing.events import EVERY, STAMP, Entry, Event, Line, Relationship, Stamp, newest_of, sequence_of, stamp_of
+from new_enemy_tools.importing.events import EVERY, STAMP, Entry, Event, Line, Relationship, Stamp, newest_of, note_number, sequence_of, stamp_of
 from new_enemy_tools.importing.packed import Indexer
 from new_enemy_tools.importing.reading import Bad, get
 from new_enemy_tools.importing.refusals import Refusals
@@ -197,6 +197,7 @@ class Log:
             for line in self.events(path, source.values(self.refusals)):
                 lines.add(line)
                 yield lines.facts.count
+            lines.facts.numbers.merge(self.refusals.numbers)
             self._end(path, self.joining.left())
             return
         blocks = Blocks(source, partial(self._block, source, reader), jobs)
@@ -208,6 +209,7 @@ class Log:
             else:
                 lines.add_piece(found[0])
                 self.refusals.merge(found[1])
+            lines.facts.numbers.merge(self.refusals.numbers)
             yield lines.facts.count
         self._end(path, blocks.left)
 
@@ -241,6 +243,8 @@ class Log:
 
     def events(self, path: str, values: Iterable[tuple[int, Any]]) -> Iterator[Line]:
         for line, given in values:
+            if not printed.is_event(given):
+                note_number(given, path, line, self.refusals)
             for key in printed.mistyped(given):
                 self.refusals.refuse(path, line, key.said())
             try:

@@ -6,6 +6,7 @@ from typing import IO, Iterable, Iterator, NamedTuple, Optional, Union
 from new_enemy_tools.ids import Ids
 from new_enemy_tools.importing.checks import NEWEST, Row
 from new_enemy_tools.importing.events import EVERY, Entry, Event, Line, Relationship
+from new_enemy_tools.importing.numbers import Numbers
 from new_enemy_tools.importing.packed import Packed, packed_of
 
 BATCH = 1 << 12
@@ -88,6 +89,8 @@ class Facts:
         # the first sequence and the last, and whether all lines but the first rules have one, each a greater one than the line before
         self.sequences: Optional[tuple[tuple[int, int], tuple[int, int]]] = None
         self.is_rising = True
+        # those of all lines, also of lines that have no event
+        self.numbers = Numbers()
         self.is_chained = False
         self.has_newest = self.has_between = self.has_groups = self.has_every = self.has_asked = self.has_calls = False
 
@@ -139,6 +142,7 @@ class Facts:
         for file, line in other.files.items():
             self.files.setdefault(file, line)
         self.is_sequenced &= other.is_sequenced
+        self.numbers.merge(other.numbers)
         self.is_rising &= other.is_rising and (self.sequences is None or other.sequences is None or self.sequences[1] < other.sequences[0])
         if self.sequences is None or other.sequences is None:
             self.sequences = self.sequences or other.sequences
