@@ -5,6 +5,7 @@ from typing import TYPE_CHECKING, NamedTuple, Optional
 
 from new_enemy_tools.coverage import Coverage, counted
 from new_enemy_tools.importing.numbers import Numbers
+from new_enemy_tools.importing.pages import Page
 
 if TYPE_CHECKING:
     from new_enemy_tools.importing.events import Entry
@@ -51,9 +52,8 @@ class Refusals:
         self.deleted: list[tuple[Optional[int], str, int]] = []
         # of each call that wrote, and whose line does not say all of that, the first line
         self.unseen: dict[str, tuple[str, int]] = {}
-        # of each page of changes that was asked for, in short, the token that it begins behind, if any, and the one that it ends with; how many
-        # changes it has, and its line
-        self.pages: list[tuple[Optional[int], int, int, str, int]] = []
+        # the pages of changes that were asked for
+        self.pages: list[Page] = []
         # the stores that calls name, each with the first line that does
         self.stores: dict[str, tuple[str, int]] = {}
         self.doubts: list[tuple[str, Optional[str], str]] = []

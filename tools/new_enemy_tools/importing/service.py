@@ -268,14 +268,14 @@ class Log:
         if is_check and get(changes, self.DECIDES[0]) is not None:
             yield from self._checks(value, stamp, path, line)
         elif self.is_write(changes):
-            self.refuse_partial(get(value, "request"), changes, path, line)
+            self.refuse_partial(get(value, "request"), changes, stamp, path, line)
             yield from self.writes(changes, stamp, path, line)
         elif (rules := self.new_rules(value)) is not None:
             yield from self.change(rules, value, stamp, path, line)
         else:
             yield from self._call(value, is_check, stamp, path, line)
 
-    def refuse_partial(self, request: object, changes: object, path: str, line: int) -> None:
+    def refuse_partial(self, request: object, changes: object, stamp: Stamp, path: str, line: int) -> None:
         """Of changes that were asked for in part it is not known what stands between them; raises Bad."""
         found = get(changes, "changes") or get(get(changes, "result") or changes, "updates")
         asked = [key for key in self.PARTIAL if get(request, key)] if found else []
