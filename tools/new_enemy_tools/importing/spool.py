@@ -46,12 +46,17 @@ class Spool:
         self.file.write(data)
         self.starts.append((at, at + len(data)))
 
+    def batch(self, number: int) -> bytes:
+        """A batch that is not in memory."""
+        assert self.file is not None
+        start, end = self.starts[number]
+        self.file.seek(start)
+        return self.file.read(end - start)
+
     def batches(self, first: int = 0) -> Iterator[bytes]:
         """The rows as they are handed to other processes, from a batch on."""
-        for start, end in self.starts[first:]:
-            assert self.file is not None
-            self.file.seek(start)
-            yield self.file.read(end - start)
+        for number in range(first, len(self.starts)):
+            yield self.batch(number)
         if self.rows:
             yield marshal.dumps(self.rows)
 
