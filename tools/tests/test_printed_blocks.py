@@ -70,8 +70,8 @@ class Logs(PrintedCase):
                 self.assertEqual(checks, sum(isinstance(one, Check) and not one.is_content for one in islice(World(1).events(), EVENTS)))
 
     def test_hardly_a_line_is_read_in_full(self):
-        """But those that teach a shape, and the server's requests and responses."""
-        for name in set(FORMS) - {"spicedb_log", "events_of_clocks"}:
+        """But those that teach a shape."""
+        for name in set(FORMS) - {"events_of_clocks"}:
             texts = self.texts(self.log_of(name, events=3000))
             self.put("log", "".join(text + "\n" for text in texts))
             self.put("ids.jsonl", "")

@@ -65,7 +65,8 @@ def given_of(words: list[str]) -> tuple[Parser, Namespace]:
             service.add_argument("--base-at", metavar="REVISION", help="the revision of the base state")
         service.add_argument("--from-empty", action="store_true", help="the store was empty before the first write")
         service.add_argument("--skew", type=int, metavar="MS", help="order events by time, and refuse two of different clocks within MS milliseconds if their order could change a finding")
-        service.add_argument("--sequence-has-holes", action="store_true", help="no line is missing where a number of the `sequence` is")
+        service.add_argument("--sequence-has-holes", action="store_true",
+                             help="no line is missing where a number of the `sequence` is")
         service.add_argument("--skip-unmapped", action="store_true", help="leave out tuples and rules that a trace cannot say, and each check that hangs on them")
         add_allowing(service)
         service.add_argument("--trace", default="trace.jsonl", metavar="FILE", help="the trace to write (trace.jsonl)")

@@ -28,20 +28,21 @@ class Hole(NamedTuple):
 
 
 class Numbers:
-    """Those of lines in any order. `before` is the last of the days before. Where numbers have holes they are not kept."""
+    """Those of lines in any order. `before` is the last of the days before. Where numbers are said to have holes none is
+    kept."""
 
     def __init__(self, before: Optional[int] = None, has_holes: bool = False):
         self.runs: list[Run] = []
         self.before, self.has_holes = before, has_holes
         self._most = FEW
 
-    def add(self, number: int, file: str, line: int) -> None:
-        runs = self.runs
-        last = runs[-1] if runs else None
-        if last is not None and number == last.last + 1:
-            runs[-1] = last._replace(last=number)
-        elif last is None or number != last.last:
-            runs.append(Run(number, number, file, line))
+    def add(self, number: int, file: str, line: int, last: Optional[int] = None) -> None:
+        """That of a line; or of lines from there on, which have all up to another one."""
+        before, last = self.runs[-1] if self.runs else None, number if last is None else last
+        if before is not None and number == before.last + 1:
+            self.runs[-1] = before._replace(last=last)
+        elif before is None or not number == last == before.last:
+            self.runs.append(Run(number, last, file, line))
 
     def merge(self, other: "Numbers") -> None:
         """Takes those of other lines away from there."""
@@ -80,16 +81,17 @@ class Numbers:
         holes = list(self.holes())
         first = self.runs[0] if self.runs else None
         if self.before is not None and first is not None and first.first <= self.before:
-            refusals.refuse(first.file, first.line, "its `sequence` %d is not behind %d, the last of the day before: one sequencer numbers all days; "
-                            "or give --sequence-has-holes" % (first.first, self.before))
+            refusals.refuse(first.file, first.line, "its `sequence` %d is not behind %d, the last of the day before: one "
+                            "sequencer numbers all days; or give --sequence-has-holes" % (first.first, self.before))
         if not holes:
             return None
         count = sum(hole.last - hole.first + 1 for hole in holes)
         begin, end, behind = holes[0]
-        refusals.gap("sequence", "the sequence has %s, of %s; the first %s before %s:%d. A check behind a missing line is not audited, since that "
-                     "may be a write: find these lines, or give --sequence-has-holes where the numbers have holes and no line is missing"
-                     % (_counted(len(holes), "hole"), _counted(count, "number"), "is %d" % begin if begin == end else "are %d to %d" % (begin, end),
-                        behind.file, behind.line))
+        which = "is %d" % begin if begin == end else "are %d to %d" % (begin, end)
+        told = _counted(len(holes), "hole"), _counted(count, "number"), which, behind.file, behind.line
+        refusals.gap("sequence", "the sequence has %s, of %s; the first %s before %s:%d. A check behind a missing line is not "
+                     "audited, since that may be a write: find these lines, or give --sequence-has-holes where the numbers have "
+                     "holes and no line is missing" % told)
         refusals.lose(causes.NO_LINE, count, None)
         return begin
 

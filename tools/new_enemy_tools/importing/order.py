@@ -75,7 +75,8 @@ def _once(events: Iterable[Some], refusals: Refusals) -> Iterator[Some]:
     before: Optional[Line] = None
     for event in events:
         if before is not None and before.sequence is not None and before.sequence == event.sequence:
-            refusals.refuse(event.file, event.line, "sequence %d stands at %s:%d too" % (before.sequence[0], before.file, before.line))
+            refusals.refuse(event.file, event.line, "sequence %d stands at %s:%d too"
+                            % (before.sequence[0], before.file, before.line))
         before = event
         yield event
 
@@ -89,13 +90,14 @@ def _timed(events: Iterable[Some], refusals: Refusals) -> Iterator[Some]:
             continue
         before = last.get((event.clock, event.file))
         if before is not None and event.time < _time(before):
-            refusals.refuse(event.file, event.line, "its time is before that of %s:%d, of the same clock" % (before.file, before.line))
+            refusals.refuse(event.file, event.line, "its time is before that of %s:%d, of the same clock"
+                            % (before.file, before.line))
         last[event.clock, event.file] = event
         yield event
 
 
 def _apart(events: Iterable[Some], skew: int, refusals: Refusals) -> Iterator[Some]:
-    """Lines in the order of their times, without checks of which it is not known whether they came before another line."""
+    """Lines in the order of their times, without checks of which it is not known whether they came before another one."""
     near: deque[Placed[Some]] = deque()
     for event in events:
         while near and _time(event) - _time(near[0].line) > skew:
@@ -105,8 +107,9 @@ def _apart(events: Iterable[Some], skew: int, refusals: Refusals) -> Iterator[So
             before = other.line
             is_unsure = event.clock != before.clock or event.file != before.file and event.time == before.time
             if is_unsure and not placed.is_out and not other.is_out and _matters(event, before):
+                apart = format((_time(event) - _time(before)) / MILLISECOND, "g")
                 told = "which came first, this %s or the %s at %s:%d, is not known: they are %s ms apart, and the skew is %d ms" % (
-                    event.kind, before.kind, before.file, before.line, format((_time(event) - _time(before)) / 1e6, "g"), skew // MILLISECOND)
+                    event.kind, before.kind, before.file, before.line, apart, skew // MILLISECOND)
                 out = placed if isinstance(event, Entry) else other
                 _leave_out(out.line, causes.ORDER_UNKNOWN, told, refusals, event)
                 out.is_out = True

@@ -6,13 +6,13 @@ if TYPE_CHECKING:
     from new_enemy_tools.importing.refusals import Refusals
     from new_enemy_tools.importing.spool import Lines, WriteRow
 
-MISSING = ("these changes go on from a `continuation_token` that no page of the log gives: a page of changes is missing; give all pages from "
-           "the first on, or from the base state on")
+MISSING = ("these changes go on from a `continuation_token` that no page of the log gives: a page of changes is missing; give "
+           "all pages from the first on, or from the base state on")
 
 
 class Page(NamedTuple):
-    """In short the token that a page begins behind, if any, and the one that it ends with; how many changes it has, where it stands, and its
-    number of the sequence."""
+    """In short the token that a page begins behind, if any, and the one that it ends with; how many changes it has, where it
+    stands, and its number of the sequence."""
 
     behind: Optional[int]
     ends: int
@@ -39,8 +39,8 @@ def without_request(writes: "Iterable[WriteRow]", pages: Iterable[Page]) -> "lis
 
 
 def refuse_missing(lines: "Lines", is_by_time: bool, has_base: bool, refusals: "Refusals") -> None:
-    """A page begins behind one that stands before it, or anywhere where that is not known; the first may where the base state ends. One page
-    may begin behind changes that stand before it and have no request."""
+    """A page begins behind one that stands before it, or behind any where that is not known; the first may where the base state
+    ends. One page may begin behind changes that stand before it and have no request."""
     pages, is_sequenced = refusals.pages, lines.facts.is_sequenced
     bare = without_request(lines.writes(), pages) if pages else []
     places = [page.sequence if is_sequenced else page.line for page in pages]

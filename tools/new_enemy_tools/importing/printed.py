@@ -138,6 +138,15 @@ def is_stream(value: dict[str, Any]) -> bool:
     return str(value.get("grpc.method_type")).endswith("stream")
 
 
+def is_plain_end(value: Any) -> bool:
+    """Whether a line says no more than that a call ended well, of which only its id matters."""
+    if not isinstance(value, dict) or value.get("message") != FINISHED or value.get("grpc.code") != "OK":
+        return False
+    others = {REQUEST, RESPONSE, "sequence", *REQUEST_ID[1:]}
+    return REQUEST_ID[0] in value and value.keys().isdisjoint(others) and not _is_health(value.get("grpc.service")) \
+        and not any(mistyped(value))
+
+
 def steps_of(value: Any) -> list[Step]:
     """What a line does to what waits, if it does anything."""
     if not Joining.takes(value) or _is_health(value.get("grpc.service")):
@@ -180,14 +189,23 @@ class Joining:
         if found not in self.waiting:
             raise Bad("the log has no request of the response with the `requestID` %s" % found[:80])
         request, _, added = self.waiting[found]
-        self.answered[found] = None
-        if len(self.answered) > ANSWERED:
-            del self.answered[next(iter(self.answered))]
-        if not is_stream(value):
-            del self.waiting[found]
+        self.answer(found, is_stream(value))
         given = {key: value[key] for key in keys if key in value and key not in ("time", "error", "method")}
         given |= both(added, added_in(given), "the lines of the request and of the response")
         return _filled({**told, "request": request, "response": plain_of(value[RESPONSE]), **given})
+
+    def answer(self, found: str, is_stream: bool = False) -> None:
+        """Notes that a call was answered, whose request waits on where more responses may come."""
+        self.answered[found] = None
+        if len(self.answered) > ANSWERED:
+            del self.answered[next(iter(self.answered))]
+        if not is_stream:
+            self.waiting.pop(found, None)
+
+    def end(self, found: str) -> None:
+        """Notes that a call that was answered ended well."""
+        self.waiting.pop(found, None)
+        self.answered.pop(found, None)
 
     def wait(self, found: str, value: dict[str, Any], line: int) -> None:
         """Keeps the request of a line."""

@@ -1,4 +1,4 @@
-"""Lines in the order of their stamps: sorted batches in a file, of which only those are in memory that the order has come to."""
+"""Lines in the order of their stamps: sorted batches in a file; only those are in memory that the order has come to."""
 import marshal
 from heapq import heappop, heappush
 from itertools import islice

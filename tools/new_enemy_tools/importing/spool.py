@@ -1,6 +1,7 @@
 """What is gone through several times and does not stay in memory: rows of plain values, in a file of their own."""
 import marshal
 import tempfile
+from operator import lt
 from typing import IO, Iterable, Iterator, NamedTuple, Optional, Union
 
 from new_enemy_tools.ids import Ids
@@ -131,6 +132,20 @@ class Facts:
             self.is_rising = False
         else:
             self.sequences = (sequence if self.sequences is None else self.sequences[0]), sequence
+
+    def note_sequences(self, numbers: list[int], lines: list[int], file: str) -> None:
+        """Those of lines between which no other one stands."""
+        first, last = numbers[0], numbers[-1]
+        is_run = numbers == list(range(first, first + len(numbers)))
+        self.note_sequence((first, 0))
+        if is_run:
+            self.numbers.add(first, file, lines[0], last)
+        else:
+            self.is_rising &= all(map(lt, numbers, numbers[1:]))
+            for number, line in zip(numbers, lines):
+                self.numbers.add(number, file, line)
+        if self.is_rising and self.sequences is not None:
+            self.sequences = self.sequences[0], (last, 0)
 
     def note_checks(self, file: str, first: int, has_all: bool = False) -> None:
         """Lines of a file, of which the first is told, and whether all have a sequence, which is noted of each."""
