@@ -24,7 +24,8 @@ class Page(NamedTuple):
 
 def without_request(writes: "Iterable[WriteRow]", pages: Iterable[Page]) -> "list[WriteRow]":
     """The changes that stand in no page; both are in the order of the files."""
-    found, waiting = [], (page for page in pages if page.count)
+    found: list[WriteRow] = []
+    waiting = (page for page in pages if page.count)
     page = next(waiting, None)
     left = page.count if page else 0
     for row in writes:
@@ -49,7 +50,7 @@ def refuse_missing(lines: "Lines", is_by_time: bool, has_base: bool, refusals: "
         return
     events: list[tuple[int, Optional[Page]]] = [(place or 0, page) for place, page in zip(places, pages)]
     events += [(row.sequence[0] if is_sequenced and row.sequence else row.line, None) for row in bare]
-    ends = set() if is_known else {page.ends for page in pages if page.ends != page.behind}
+    ends = {page.ends for page in pages if page.ends != page.behind and not is_known}
     first = pages[0].behind if pages and has_base else None
     is_open = False
     for _, page in sorted(events, key=itemgetter(0)) if is_known else events:

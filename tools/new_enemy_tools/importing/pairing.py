@@ -74,8 +74,10 @@ class Pairing:
     def _read_asked(self, found: str) -> None:
         """Reads a request that waits, if there is one."""
         line, number, is_before = self.asked.pop(found, (b"", 0, False))
+        if not line:
+            return
         if not is_before:
-            self._read(number, line) if line else None
+            self._read(number, line)
             return
         value = value_of(line)
         if not isinstance(value, dict) or REQUEST not in value:

@@ -2,24 +2,25 @@
 import marshal
 from heapq import heappop, heappush
 from itertools import islice
-from typing import Callable, Iterable, Iterator, Union
+from typing import Any, Callable, Iterable, Iterator
 
 from new_enemy_tools.importing.checks import Row
 from new_enemy_tools.importing.events import Entry, Event, Line
 from new_enemy_tools.importing.spool import BATCH, Spool, line_of, row_of
 
-Stamp = Union[int, tuple[int, int]]
+# A number, or several.
+Stamp = Any
 
 
-def sorted_lines(lines: Iterable[Line], stamp_of: Callable[[Line], Stamp]) -> Iterator[Line]:
+def sorted_lines(given: Iterable[Line], stamp_of: Callable[[Line], Stamp]) -> Iterator[Line]:
     """As `sorted` has them. Lines of a log stand almost in their order, so few batches of it reach over one another."""
     spool, firsts, rules = Spool(), list[Stamp](), list[Event]()
-    lines = iter(lines)
+    lines = iter(given)
     while batch := sorted(islice(lines, BATCH), key=stamp_of):
         firsts.append(stamp_of(batch[0]))
         spool.add_batch(marshal.dumps([_row_of(line, rules) for line in batch]))
     heap: list[tuple[Stamp, int, int, Line, Iterator[Row]]] = []
-    # behind the last, whose batches are all known, none begins
+    # the batches that are still in the file, the first of them at the end
     waiting = sorted(range(len(firsts)), key=firsts.__getitem__, reverse=True)
     while waiting or heap:
         while waiting and (not heap or firsts[waiting[-1]] <= heap[0][0]):

@@ -165,7 +165,7 @@ def read_revision(text: object) -> Optional[Revision]:
     if not isinstance(text, str):
         return None
     # Many checks have one token.
-    return (_known if len(text) <= KEPT else _read_text)(text)
+    return _known(text) if len(text) <= KEPT else _read_text(text)
 
 
 @lru_cache(1 << 12)
