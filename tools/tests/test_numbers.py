@@ -102,6 +102,11 @@ class Missing(Unaudited):
         self.put("log", numbered(RULES, write(1, rel()), CONTEXTUAL, gap, check(1)))
         self.assertNotIn("number", self.imported("events", "--from-empty", "log"))
 
+    def test_a_line_that_is_refused_is_not_called_missing(self):
+        lines = [json.dumps(line) for line in self.LINES]
+        self.put("log", "\n".join([*lines[:3], lines[3][:-2], *lines[4:]]))
+        self.assertEqual(self.refused("events", "--from-empty", "log"), ["log:4: not JSON"])
+
     def test_a_lost_content_check_accuses_nobody(self):
         lines = numbered(RULES, write(1, rel()), content(1, "v", token=1), check(1, version="v", token=1))
         self.put("log", lines[:2] + lines[3:])

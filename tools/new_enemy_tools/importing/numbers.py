@@ -83,7 +83,8 @@ class Numbers:
         if self.before is not None and first is not None and first.first <= self.before:
             refusals.refuse(first.file, first.line, "its `sequence` %d is not behind %d, the last of the day before: one "
                             "sequencer numbers all days; or give --sequence-has-holes" % (first.first, self.before))
-        if not holes:
+        # A line that is refused is not missing, and may have said its number.
+        if not holes or refusals.refused:
             return None
         count = sum(hole.last - hole.first + 1 for hole in holes)
         begin, end, behind = holes[0]
