@@ -28,14 +28,19 @@ def _quoted(key: str) -> str:
     return '"%s"' % (key if len(key) <= LONGEST else key[:LONGEST] + "..")
 
 
-@lru_cache(1 << 12)
 def near(key: str, known: frozenset[str]) -> Optional[str]:
     """The known key that is most like this one, if one is."""
+    # A longer one is not kept either.
+    return _near(key, known) if len(key) <= LONGEST else None
+
+
+@lru_cache(1 << 12)
+def _near(key: str, known: frozenset[str]) -> Optional[str]:
     # It is seldom needed, and takes long to load.
     from difflib import get_close_matches
 
     folded = {one.lower(): one for one in known}
-    found = get_close_matches(key.lower(), folded, 1, NEAR) if len(key) <= LONGEST else []
+    found = get_close_matches(key.lower(), folded, 1, NEAR)
     return folded[found[0]] if found else None
 
 

@@ -2,11 +2,14 @@
 import json
 import os
 import re
+from random import Random
 from unittest import mock
 
 from new_enemy_tools import limits
 from new_enemy_tools.ids import Ids
-from new_enemy_tools.importing import causes
+from new_enemy_tools.importing import causes, sorting
+from new_enemy_tools.importing.events import Event
+from new_enemy_tools.importing.spool import Spool
 from new_enemy_tools.texts import Tuple, Userset, parse_tuple
 from tests.support import Case
 
@@ -144,7 +147,7 @@ class Order(CoreCase):
         return ("events", "--from-empty", *words, self.given(RULES, *first, name="one"), self.given(*second, name="two"))
 
     def test_one_sequencer(self):
-        self.imported(*self.two(first=[write(1, rel(), sequence=2), write(2, sequence=9)], second=[check(1, sequence=5)]))
+        self.imported(*self.two(first=[write(1, rel(), sequence=2), write(2, sequence=4)], second=[check(1, sequence=3)]))
         self.assertEqual([row["kind"] for row in self.rows("trace.jsonl")], ["namespace", "commit", "check", "commit"])
 
     def test_files_without_an_order(self):
@@ -376,6 +379,30 @@ class Told(CoreCase):
         self.assertEqual(self.get("trace.jsonl").count("\n"), 100_001)
 
 
+class Sorted(CoreCase):
+    def lines(self, *times):
+        return [Event("write", "log", line, line, time=time) for line, time in enumerate(times)]
+
+    def test_lines_are_in_the_order_of_sorted(self):
+        random = Random(1)
+        for most in 1, 3, 4096:
+            given = self.lines(*[random.randrange(40) for _ in range(200)])
+            given[70:70] = [Event("rules", "log", 900, time=7)]
+            with mock.patch.object(sorting, "BATCH", most):
+                found = list(sorting.sorted_lines(given, lambda line: line.time))
+            self.assertEqual(found, sorted(given, key=lambda line: line.time))
+            self.assertIs(next(one for one in found if one.kind == "rules"), given[70])
+
+    def test_only_lines_that_may_still_move_are_in_memory(self):
+        """Files of two clocks, one behind the other: of each one batch at once."""
+        loaded, load = [], Spool.batch
+        with mock.patch.object(sorting, "BATCH", 10), mock.patch.object(
+                Spool, "batch", lambda spool, number: loaded.append(number) or load(spool, number)):
+            for count, _ in enumerate(sorting.sorted_lines(self.lines(*range(500), *range(500)), lambda line: line.time), 1):
+                self.assertLessEqual(len(loaded), count // 10 + 3)
+        self.assertEqual(sorted(loaded), list(range(100)))
+
+
 class FilesInAnyOrder(CoreCase):
     """Files of one sequencer, or of one clock, may be given in any order, and their lines may be between each other."""
 
@@ -408,6 +435,15 @@ class FilesInAnyOrder(CoreCase):
         for names in ("first", "second"), ("second", "first"):
             self.imported("events", *names)
             self.assertEqual(re.findall("F[0-9]+ .*", self.audited()), ["F2 old token, see line 5", "F10 wrong reply"])
+            os.remove(self.path("ids.jsonl"))
+
+    def test_a_gap_without_a_number_costs_no_order(self):
+        lines = [one | {"sequence": number} for number, one in enumerate([*self.LINES, check(2, version="w", token=2), check(3, True)])]
+        self.given(*lines[::2], {"event": "gap", "from": None, "to": "2024-01-01T00:00:00Z", "reason": "the log begins"}, name="first")
+        self.given(*lines[1::2], name="second")
+        for names in ("first", "second"), ("second", "first"):
+            self.assertIn("audited in part 1: %s; not looked for: F2, F6" % causes.VERSION_UNKNOWN, self.unaudited("events", *names))
+            self.assertEqual(re.findall("F[0-9]+ .*", self.audited()), ["F10 wrong reply"])
             os.remove(self.path("ids.jsonl"))
 
     def test_of_one_clock(self):

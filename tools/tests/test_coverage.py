@@ -4,6 +4,7 @@ import unittest
 from new_enemy_tools.coverage import Coverage, coverage_in, mark_of, of_row
 from new_enemy_tools.importing import causes
 from new_enemy_tools.importing.times import nanoseconds
+from new_enemy_tools.importing.writing import Counts
 
 CHECK = b'{"kind":"check","goal":"doc:a#viewer@1","snapshot":1,"reply":true%s}\n'
 
@@ -41,6 +42,11 @@ class Sums(unittest.TestCase):
         self.assertEqual(coverage_in(data), left)
         self.assertEqual(coverage_in(data + data), left.plus(left))
         self.assertEqual(coverage_in(lines), Coverage(2, {causes.VERSION_UNKNOWN: 1}))
+
+    def test_times_that_are_written_in_another_way_are_in_their_order(self):
+        counts = Counts()
+        counts.take_times("2024-05-01T00:00:00Z\n\n2024-05-01T00:00:00.08Z\n2024-05-01t00:00:00.0400z\n2024-05-01T00:00:00.001Z")
+        self.assertEqual((counts.since, counts.until), tuple(map(nanoseconds, ("2024-05-01T00:00:00Z", "2024-05-01T00:00:00.08Z"))))
 
     def test_a_trace_that_is_not_as_its_import_left_it_is_not_whole(self):
         data = (CHECK % b"")[:-2] + b"," + mark_of(Coverage(2)).encode() + b"}\n"

@@ -70,8 +70,8 @@ class Logs(PrintedCase):
                 self.assertEqual(checks, sum(isinstance(one, Check) and not one.is_content for one in islice(World(1).events(), EVENTS)))
 
     def test_hardly_a_line_is_read_in_full(self):
-        """But those that teach a shape, and the server's requests and responses."""
-        for name in set(FORMS) - {"spicedb_log", "events_of_clocks"}:
+        """But those that teach a shape."""
+        for name in set(FORMS) - {"events_of_clocks"}:
             texts = self.texts(self.log_of(name, events=3000))
             self.put("log", "".join(text + "\n" for text in texts))
             self.put("ids.jsonl", "")
@@ -110,7 +110,7 @@ class InSequence(PrintedCase):
             if seed % 4 == 1:
                 random.shuffle(texts)
             elif seed % 4 == 2:
-                # one stands twice, and one has none
+                # one stands twice, and one has none, so that numbers are missing
                 texts[70] = texts[70].replace('"sequence":70', '"sequence":69')
                 texts[90] = texts[90].replace('"sequence":90,', "") if seed else texts[90]
             elif seed % 4 == 3:
@@ -125,7 +125,7 @@ class InSequence(PrintedCase):
                 for jobs, size in ((1, 1 << 20), (2, 3000)):
                     self.assertEqual(self.outcome(words, jobs, size), wanted)
                 statuses.append(wanted[0])
-        self.assertEqual(set(statuses), {0, 2})
+        self.assertEqual(set(statuses), {0, 2, 6})
 
 
 class Joined(PrintedCase):

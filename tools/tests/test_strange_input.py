@@ -1,8 +1,11 @@
 """Files that are not what a service writes: refused, and never a fault of the importer itself."""
 import json
 import os
+import unittest
 from random import Random
 
+from new_enemy_tools import keys
+from new_enemy_tools.importing import times, zedtokens
 from tests.support import EXAMPLES, Case
 
 STRANGE = [None, True, 0, -1, 1.5, "", "x", "a:b", "a:b#c", "*", [], [[]], {}, {"a": 1}, [None], {"token": []}]
@@ -28,6 +31,20 @@ def mutated(random, value):
             return value + [value[place]]
         return value[:place] + [mutated(random, value[place])] + value[place + 1:]
     return random.choice(STRANGE)
+
+
+class Kept(unittest.TestCase):
+    """What is kept of what was read has a bound, also where a stranger's text is as long as a line."""
+
+    def test_a_key_a_time_or_a_token_is_kept_only_where_it_is_short(self):
+        for read, kept, short in ((lambda text: keys.near(text, frozenset(("version",))), keys._near, "verison"),
+                                  (times.nanoseconds, times._of_text, "2024-05-06T07:08:09.123456789+00:00"),
+                                  (zedtokens.read_revision, zedtokens._known, "1700000000000000000.0000000001")):
+            kept.cache_clear()
+            found = read(short)
+            self.assertIsNotNone(found)
+            self.assertEqual([read("%s%d" % ("x" * (1 << 16), number)) for number in range(9)], [None] * 9)
+            self.assertEqual((read(short), kept.cache_info().currsize), (found, 1))
 
 
 class StrangeInput(Case):

@@ -1,4 +1,5 @@
 """Writes that a log has in the calls that made them; changes that were read twice; and calls within events of CloudEvents."""
+import json
 import os
 
 from tests import test_openfga, test_postgres, test_spicedb
@@ -223,11 +224,41 @@ class OpenFga(Case):
         os.remove(self.path("ids.jsonl"))
         self.put("log", [*pages[1:3], *pages[4:], self.check(at=2)])
         self.assertEqual(self.refused(*words), ["log:3: " + told])
-        self.assertIn("F10 wrong reply", self.report(pages[0]["response"], *pages[2:], stale))
-        os.remove(self.path("trace.jsonl"))
-        os.remove(self.path("ids.jsonl"))
         odd = page("1", "2", change("user:b", at=AT % 2), continuation_token=[1])
         self.assertEqual(self.refused(*self.words(pages[0], odd, self.check(at=1))), ["log:2: a `continuation_token` is no text"])
+
+    def test_one_page_may_begin_behind_changes_that_have_no_request(self):
+        """A page between others is missing all the same, and one behind the first that does."""
+        def page(asked, given, *changes):
+            return {"request": {**({"continuation_token": asked} if asked else {}), "page_size": 1},
+                    "response": {"changes": list(changes), "continuation_token": given}}
+        users = [change("user:%s" % user, at=AT % at) for at, user in enumerate("abcde", 1)]
+        read = [page(str(at) if at else "", str(at + 1), one) for at, one in enumerate(users)] + [page("5", "5")]
+        stale, told = self.check(at=5, allowed=False), "these changes go on from a `continuation_token` that no page of the log gives: a page of "
+
+        def numbered(lines):
+            return [{**one, "sequence": number} for number, one in enumerate(lines)]
+        for bare in [users[0]], [read[0]["response"]], users[:1] * 2:
+            lines = [*bare, *read[1:], *read[1:], *read[2:4], stale]
+            self.assertIn("F10 wrong reply", self.report(*lines))
+            self.assertIn("F10 wrong reply", self.report(*numbered(lines)))
+            os.remove(self.path("trace.jsonl"))
+            os.remove(self.path("ids.jsonl"))
+            for log, line in (read[1:2] + read[3:], 2), (read[2:] + read[1:2], 5):
+                lines = [*bare, *log, self.check(at=4)]
+                for given in lines, numbered(lines):
+                    refused, = self.refused(*self.words(*given))
+                    self.assertTrue(refused.startswith("log:%d: %s" % (len(bare) + line, told)), refused)
+        refused, = self.refused(*self.words(*read[2:], *users[:2], self.check(at=5)))
+        self.assertTrue(refused.startswith("log:1: " + told), refused)
+        # values over many lines
+        texts = [json.dumps(one, indent=1) for one in (users[0], read[1], *read[3:])]
+        words = self.words()
+        self.put("log", "\n".join(texts))
+        refused, = self.refused(*words)
+        self.assertTrue(refused.startswith("log:%d: %s" % (sum(text.count("\n") + 1 for text in texts[:2]) + 1, told)), refused)
+        self.put("log", "\n".join(texts[:2]))
+        self.imported(*words)
 
     def test_changes_of_one_type_are_refused(self):
         """A change of another type between them is not there, and the places are others."""

@@ -26,6 +26,7 @@ from new_enemy_tools.importing.chained import in_chain, last_of
 from new_enemy_tools.importing.core import Core, Given, GoesOn
 from new_enemy_tools.importing.going_on import Left, read_left, refuse_other, write_left
 from new_enemy_tools.importing.neutral import gather_events
+from new_enemy_tools.importing.numbers import Numbers
 from new_enemy_tools.importing.refusals import Refusals
 from new_enemy_tools.importing.service import ServiceRules
 from new_enemy_tools.importing.spool import Lines
@@ -64,6 +65,8 @@ def given_of(words: list[str]) -> tuple[Parser, Namespace]:
             service.add_argument("--base-at", metavar="REVISION", help="the revision of the base state")
         service.add_argument("--from-empty", action="store_true", help="the store was empty before the first write")
         service.add_argument("--skew", type=int, metavar="MS", help="order events by time, and refuse two of different clocks within MS milliseconds if their order could change a finding")
+        service.add_argument("--sequence-has-holes", action="store_true",
+                             help="no line is missing where a number of the `sequence` is")
         service.add_argument("--skip-unmapped", action="store_true", help="leave out tuples and rules that a trace cannot say, and each check that hangs on them")
         add_allowing(service)
         service.add_argument("--trace", default="trace.jsonl", metavar="FILE", help="the trace to write (trace.jsonl)")
@@ -114,7 +117,9 @@ def rules_of(given: Namespace, refusals: Refusals) -> Optional[ServiceRules]:
 
 def gathered(given: Namespace, base: Any, refusals: Refusals, progress: Progress, goes_on: Optional[GoesOn], ids: Ids) -> Given:
     """The lines of the service's files, base state first; that stands in the first day alone."""
-    lines, is_later = Lines(ids=ids), goes_on is not None and goes_on.before is not None
+    lines, before = Lines(ids=ids), None if goes_on is None else goes_on.before
+    is_later = before is not None
+    lines.facts.numbers = Numbers(None if before is None else before.sequence, given.sequence_has_holes)
     if given.service == "events":
         chained = in_chain(given.logs, refusals, None if goes_on is None else goes_on.chain)
         if goes_on is not None:

@@ -7,9 +7,10 @@ from new_enemy_tools.importing.checks import NAMES, NEWEST, Checks, Look, Other,
 from new_enemy_tools.importing.events import Event, Line
 from new_enemy_tools.importing.located import BLANK, Block
 from new_enemy_tools.importing.packed import Indexer
+from new_enemy_tools.importing.pairing import Full, Match, Pairing
 from new_enemy_tools.importing.printed import time_of as time_of_epoch
 from new_enemy_tools.importing.shapes import QUOTE, Form, Said, Shape, Shapes, shape_of
-from new_enemy_tools.importing.spool import Facts, Read, row_of
+from new_enemy_tools.importing.spool import CALL, Facts, Read, row_of
 from new_enemy_tools.importing.times import nanoseconds
 
 # So many shapes are known at most, and so many lines are looked at for one.
@@ -17,7 +18,6 @@ MOST = 64
 TRIES = 200
 DAY = len("2024-05-06")
 
-Full = Callable[[int, bytes], list[Line]]
 # The type, the relation, and the user's type and relation of a tuple.
 Names = tuple[str, str, str, Optional[str]]
 
@@ -31,7 +31,7 @@ class When(NamedTuple):
 
 
 # Other lines of a log are few, and are read in full.
-LEARNT = ("check", "content", "write")
+LEARNT = ("check", "content", "write", CALL)
 
 
 class Usual(NamedTuple):
@@ -48,6 +48,8 @@ class Usual(NamedTuple):
     takes: Callable[[str, str, str, Optional[str]], bool]
     # what stands for the relation of a user that has one
     relation_of: Callable[[Optional[bytes]], Optional[str]] = lambda given: given and given.decode() or None
+    # calls that wrote
+    call: tuple[Form, ...] = ()
 
 
 class Columns:
@@ -65,6 +67,9 @@ class Columns:
         self.lines: list[int] = []
         self.times: list[bytes] = []
         self.sequences: list[int] = []
+        # those of the last lines that were read by their shapes, and these lines
+        self.run: list[int] = []
+        self.run_lines: list[int] = []
         # whether all lines that were read by their shapes have a sequence
         self.has_all = True
         self.others: list[Other] = []
@@ -87,19 +92,21 @@ class Columns:
 
     def add_time(self, time: bytes) -> None:
         """The time of the check that is next."""
-        self.times += [b""] * (len(self.lines) - len(self.times))
+        if len(self.times) < len(self.lines):
+            self.times += [b""] * (len(self.lines) - len(self.times))
         self.times.append(time)
 
-    def note_line(self, shape: Shape, found: re.Match[bytes], is_check: bool) -> None:
-        """Notes the sequence of the line that is next."""
-        if not shape.sequence:
-            self.has_all = False
-            return
-        sequence = int(found[shape.sequence])
-        self.facts.note_sequence((sequence, 0))
-        if is_check:
+    def add_sequence(self, sequence: int, line: int) -> None:
+        """That of the line that is next."""
+        self.run.append(sequence)
+        self.run_lines.append(line)
+
+    def add_checks_sequence(self, sequence: int, line: int) -> None:
+        """That of the check that is next."""
+        self.add_sequence(sequence, line)
+        if len(self.sequences) < len(self.lines):
             self.sequences += [-1] * (len(self.lines) - len(self.sequences))
-            self.sequences.append(sequence)
+        self.sequences.append(sequence)
 
     def add(self, line: Line) -> None:
         """A line that was read in full."""
@@ -111,6 +118,7 @@ class Columns:
         """A write or a content check that was read by its shape."""
         self.first = self.first or (self.lines[0] if self.lines else row[2])
         self.facts.has_asked |= row[0] == "content" and row[11] is not None
+        self.facts.has_calls |= row[0] == CALL
         self._add_row(row)
 
     def _add_row(self, row: Row) -> None:
@@ -119,6 +127,9 @@ class Columns:
 
     def _note(self) -> None:
         """Notes the lines up to here that were read by their shapes."""
+        if self.run:
+            self.facts.note_sequences(self.run, self.run_lines, self.path)
+            self.run, self.run_lines = [], []
         self.facts.count = len(self.lines) + self.rows
         first = self.first or (self.lines[0] if self.lines else 0)
         if first:
@@ -147,13 +158,16 @@ class Reader:
         self.path, self.usual, self.indexer = path, usual, indexer
         self.shapes = Shapes()
         self.tried = 0
+        # for lines that say that a call ended
+        self.ends: list[Match] = []
         self.days: dict[bytes, bool] = {}
         # by the bytes of their names, these names where such tuples may be written
         self.taken: dict[tuple[Any, ...], Optional[Names]] = {}
 
-    def pieces(self, block: Block, full: Full) -> Iterator[Union[Read, Event]]:
+    def pieces(self, block: Block, full: Full, pairing: Optional[Pairing] = None) -> Iterator[Union[Read, Event]]:
         """The lines of a block, with rules apart, which have no row."""
-        lines = enumerate(block.data.split(b"\n"), block.first)
+        lines: Iterable[tuple[int, bytes]] = enumerate(block.data.split(b"\n"), block.first)
+        lines = iter(lines if pairing is None else pairing.lines(lines))
         given: list[Line] = []
         while True:
             columns = Columns(self.path)
@@ -176,7 +190,7 @@ class Reader:
         """Takes the lines of usual shapes, and gives the others."""
         by_quotes, others, pairs, users = self.shapes.by_quotes, self.shapes.others, columns.pairs, columns.users
         put_pair, put_user, put_look = columns.pair_of.append, columns.user_of.append, columns.look_of.append
-        put_object, put_line, look_of = columns.objects.append, columns.lines.append, self.usual.look_of
+        put_object, put_line, look_of, days = columns.objects.append, columns.lines.append, self.usual.look_of, self.days
         self.shapes.sort()
         for shape in self.shapes.listed:
             shape.looks.clear()
@@ -194,7 +208,9 @@ class Reader:
             shape.hits += 1
             time = b""
             if shape.time:
-                time = self._time_of(shape, found)
+                time = found[shape.time]
+                if time is None or not days.get(time[:DAY]):
+                    time = self._time_of(shape, found)
                 if not time:
                     yield number, line
                     continue
@@ -211,8 +227,10 @@ class Reader:
                 continue
             if time:
                 columns.add_time(time)
-            if shape.sequence or columns.has_all:
-                columns.note_line(shape, found, True)
+            if shape.sequence:
+                columns.add_checks_sequence(int(found[shape.sequence]), number)
+            else:
+                columns.has_all = False
             of, thing, relation, user_type, user_id = found.group(*shape.goal)
             pair = pairs.get((of, relation))
             put_pair(columns.add_names(of, relation) if pair is None else pair)
@@ -223,9 +241,13 @@ class Reader:
 
     def _take_rows(self, columns: Columns, number: int, shape: Shape, found: re.Match[bytes], time: bytes) -> bool:
         """Takes a line that is no check; False where it has to be read in full."""
-        rows = self._writes(number, shape, found, time) if shape.kind == "write" else self._content(number, shape, found, time)
+        read = self._content if shape.kind == "content" else self._writes
+        rows = read(number, shape, found, time)
         if rows:
-            columns.note_line(shape, found, False)
+            if shape.sequence:
+                columns.add_sequence(int(found[shape.sequence]), number)
+            else:
+                columns.has_all = False
             for row in rows:
                 columns.add_usual(row)
         return bool(rows)
@@ -257,8 +279,8 @@ class Reader:
                 if when is None:
                     return []
                 at = nanoseconds(time.decode()) if time else when.time
-                rows.append(("write", self.path, number, when.revision, when.shown, False, None, sequence_in(shape, found), at, self.path,
-                             [], [], None))
+                rows.append((shape.kind, self.path, number, when.revision, when.shown, False, None, sequence_in(shape, found), at,
+                             self.path, [], [], None))
             rows[-1][10 if is_added else 11].append((names[0], thing.decode(), names[1], names[2], user_id.decode(), names[3]))
         return rows
 
@@ -278,7 +300,7 @@ class Reader:
         if shape is None or kind == "check" and len(shape.rest) < 2:
             return
         shape.kind = kind
-        if kind == "write":
+        if kind in ("write", CALL):
             found = shape.match(line)
             shape.sides = [] if found is None else sides_of(shape, found, rows)
         known, self.shapes = self.shapes, Shapes(shape)

@@ -1,11 +1,15 @@
 """Writes of which a log has the calls that made them."""
+import marshal
 from bisect import bisect_left
+from copy import copy
+from itertools import accumulate
 from typing import Callable, Iterator, Optional, Union
 
-from new_enemy_tools.importing.checks import Row
+from new_enemy_tools.importing.checks import Row, column
 from new_enemy_tools.importing.events import Event
+from new_enemy_tools.importing.packed import Packed
 from new_enemy_tools.importing.refusals import Refusals
-from new_enemy_tools.importing.spool import CALL, CHECKS, Lines, row_of
+from new_enemy_tools.importing.spool import CALL, CHECKS, Lines, found_in, row_of
 
 ORDER = "%s:%d: a check saw this write before the line of its call: each such write is put before what saw it, and none is called F4"
 
@@ -13,6 +17,13 @@ ORDER = "%s:%d: a check saw this write before the line of its call: each such wr
 def _rows(lines: Lines) -> Iterator[Union[Event, Row]]:
     """The lines as rows; rules have none."""
     return (row_of(line) if isinstance(line, Event) and line.kind != "rules" else line for line in lines.rows())
+
+
+def _seen_by(row: Row) -> Optional[int]:
+    """The revision that a line saw; what is written later saw all before."""
+    if row[0] in CHECKS:
+        return row[5] if row[9] is None else row[9]
+    return None if row[5] or row[3] is None else row[3] - 1
 
 
 class Seen:
@@ -23,11 +34,7 @@ class Seen:
         self.places: list[int] = []
 
     def take(self, place: int, row: Row) -> None:
-        if row[0] in CHECKS:
-            revision = row[5] if row[9] is None else row[9]
-        else:
-            # What is written later saw all before.
-            revision = None if row[5] or row[3] is None else row[3] - 1
+        revision = _seen_by(row)
         if revision is not None and (not self.revisions or revision > self.revisions[-1]):
             self.revisions.append(revision)
             self.places.append(place)
@@ -38,11 +45,47 @@ class Seen:
         return self.places[at] if at < len(self.places) else None
 
 
+def _in_place(lines: Lines) -> Optional[Lines]:
+    """The lines with each call as a write in its place, and blocks as they are; None where another line writes, or one saw a call that
+    stands behind it."""
+    made, highest = Lines(ids=lines.ids), -1
+    made.rules, made.facts = lines.rules, copy(lines.facts)
+    made.facts.has_calls = False
+    for batch in lines.spool.batches():
+        found = found_in(batch)
+        checks = found.checks() if isinstance(found, Packed) else None
+        # the highest revision that the checks up to each saw
+        looked = [] if checks is None else [look[1] for look in checks.looks]
+        highs = [] if checks is None else list(accumulate(map(looked.__getitem__, column(checks.look_of)), max))
+        for at, row in found.among() if isinstance(found, Packed) else ((0, row) for row in found):
+            if row[0] == "rules":
+                continue
+            highest = max(highest, highs[at - 1]) if at else highest
+            if row[0] == "write" and not row[5] or row[0] == CALL and row[3] <= highest:
+                return None
+            seen = _seen_by(row)
+            highest = highest if seen is None else max(highest, seen)
+        highest = max([highest, *highs[-1:]])
+        if isinstance(found, Packed):
+            odd = [one._replace(row=_written(one.row)) for one in found.index.odd]
+            made.spool.add_batch(found._replace(index=found.index._replace(odd=odd)).dumped())
+        else:
+            made.spool.add_batch(marshal.dumps(list(map(_written, found))))
+    return made
+
+
+def _written(row: Row) -> Row:
+    return ("write", *row[1:]) if row[0] == CALL else row
+
+
 def with_calls(lines: Lines, key_of: Callable[[Row], object], has_revisions: bool, refusals: Refusals) -> tuple[Lines, int]:
     """The lines with calls as the writes that they are, and of how many calls the log's own changes have the write, as both have one key.
 
     Where calls have revisions that checks see, each is put before the first line that saw it.
     """
+    in_place = _in_place(lines) if has_revisions and not lines.facts.has_asked else None
+    if in_place is not None:
+        return in_place, 0
     known = {key_of(row) for row in lines.writes()}
     seen, moved = Seen(), dict[int, list[Row]]()
     places: dict[int, Optional[int]] = {}

@@ -39,7 +39,7 @@ class Carried(NamedTuple):
         joining.steps = []
         joining.answered = dict.fromkeys(self.answered)
         for found, (line, number) in self.waiting.items():
-            value = _value(line)
+            value = value_of(line)
             if not isinstance(value, dict) or REQUEST not in value:
                 raise Otherwise
             joining.wait(found, value, number)
@@ -51,7 +51,7 @@ class Otherwise(Exception):
     """Lines are not what their letters say."""
 
 
-def _value(line: bytes) -> object:
+def value_of(line: bytes) -> object:
     try:
         return line_value(line)
     except ValueError:
@@ -64,7 +64,7 @@ def is_as_read(block: Block, steps: Optional[list[Step]]) -> bool:
 
 
 def _parsed_steps(block: Block) -> list[Step]:
-    return [step for line in block.data.split(b"\n") for step in steps_of(_value(line.strip(BLANK)))]
+    return [step for line in block.data.split(b"\n") for step in steps_of(value_of(line.strip(BLANK)))]
 
 
 def step_in(line: bytes) -> Optional[Step]:
@@ -118,9 +118,14 @@ class Carrying:
         return [line for found, (_, line) in self.waiting.items() if found not in self.answered]
 
 
+def has_steps(block: Block) -> bool:
+    """Whether some lines may do something to what waits."""
+    return any(mark in block.data for mark in (ASKED, ANSWER, END))
+
+
 def steps_in(block: Block) -> Iterator[tuple[int, bytes, Step]]:
     """The lines of a block that do something to what waits, with their numbers."""
-    if not any(mark in block.data for mark in (ASKED, ANSWER, END)):
+    if not has_steps(block):
         return
     for number, line in enumerate(block.data.split(b"\n"), block.first):
         step = step_in(line)
@@ -162,7 +167,7 @@ class Blocks:
         self.joining = Joining()
         for block in islice(self.source.blocks(), done):
             for number, line in enumerate(block.data.split(b"\n"), block.first):
-                self.joining.go_on(_value(line.strip(BLANK)), number)
+                self.joining.go_on(value_of(line.strip(BLANK)), number)
         for block in islice(self.source.blocks(), done, None):
             yield block
         self.left = self.joining.left()

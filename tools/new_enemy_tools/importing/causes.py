@@ -46,12 +46,16 @@ ORDER_UNKNOWN = "check that may have come before a line or behind it"
 WITHOUT_TIME = "line without a `time`"
 NO_BEGINNING = "check at a snapshot that sees no beginning of the order of commits"
 TOKEN_NO_BEGINNING = "check by a token that sees no beginning of the order, with a version"
+LINE_MISSING = "check behind a line of the sequence that is missing"
 SNAPSHOT_TOO_OLD = "check at a snapshot older than where the state begins"
 NO_COMMIT_CAME = "check at a snapshot to which no commit came"
 NOT_AUDITED = (
     CONTEXTUAL, CONTEXT_OF_CONDITIONS, CONTEXT_OF_CAVEATS, CONDITIONAL, USER_WILDCARD, USER_TYPED_WILDCARD, USER_USERSET, UNKNOWN_RELATION,
     BEFORE_BASE, OTHER_MODEL, NO_ONE_SNAPSHOT, UNREADABLE, UNREADABLE_CONTENT, HANGS_ON_LEFT_OUT, TOO_WIDE, STATE_NOT_KEPT, ORDER_UNKNOWN,
-    WITHOUT_TIME, NO_BEGINNING, TOKEN_NO_BEGINNING, SNAPSHOT_TOO_OLD, NO_COMMIT_CAME)
+    WITHOUT_TIME, NO_BEGINNING, TOKEN_NO_BEGINNING, LINE_MISSING, SNAPSHOT_TOO_OLD, NO_COMMIT_CAME)
+
+# Lost in a gap.
+NO_LINE = "no line has these numbers of the sequence"
 
 EVERY_FINDING = tuple("F%d" % number for number in range(1, 11))
 

@@ -79,12 +79,18 @@ class Core:
         self.counts = Counts()
         # of tuples that are left out the namespaces and relations of both sides, by the names of the trace
         self.circular: set[Pair] = set()
+        # the first number of the sequence that no line has, also on the days before, and the last that one has
+        self.missing = None if self._before is None else self._before.missing
+        self.last_number: Optional[int] = None
 
     def trace(self, given: Given, jobs: int = 1) -> Optional[Written]:
         """The trace, whose lines are still to be written, by so many processes; None where something was refused."""
         ahead = self._taken_ahead(given)
         for _ in given.more:
             pass
+        missing = given.lines.facts.numbers.first_missing(self.refusals)
+        self.missing = missing if self.missing is None else self.missing
+        self.last_number = given.lines.facts.numbers.last
         lines = given.end()
         wildcards = Wildcards(lines)
         if ahead is not None and ahead.stands(lines):
@@ -147,6 +153,7 @@ class Core:
         commit = self._base(lines)
         self.taken = Taken(self.declared, self.writer, self.ids, refusals, self.progress, self._base_revision(commit, base),
                            bool(commit and commit.touched), lines.facts.has_between)
+        self.taken.missing = self.missing
         if before is not None:
             going_on.take_up(before, self.taken)
         return commit
@@ -185,6 +192,7 @@ class Core:
             self.taken.wanted.setdefault(base, 1)
         named = going_on.numbered(self.taken.wanted, before.named if before else [])
         self.goes_on.left = going_on.left_by(self.goes_on.service, before, self.declared, strata, self.edges, self.taken, named, self.goes_on.chain)
+        self.goes_on.left = self.goes_on.left._replace(sequence=self.last_number, missing=self.missing)
         return {one.revision: one.at for one in named}
 
     # Order and commits

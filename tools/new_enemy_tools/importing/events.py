@@ -143,6 +143,13 @@ def stamp_of(value: dict[str, Any], file: str, line: int, refusals: Refusals) ->
     return Stamp(sequence, nanos, clock or file)
 
 
+def note_number(value: object, file: str, line: int, refusals: Refusals) -> None:
+    """Notes the number of a line, whatever else it says."""
+    number = value.get("sequence") if isinstance(value, dict) else None
+    if number is not None and is_whole(number):
+        refusals.numbers.add(number, file, line)
+
+
 def sequence_of(stamp: Stamp, place: int = 0) -> Optional[tuple[int, int]]:
     return None if stamp.sequence is None else (stamp.sequence, place)
 
@@ -355,6 +362,7 @@ def _event(value: object, file: str, line: int, refusals: Refusals) -> Optional[
 def read_events(values: Iterable[tuple[int, object]], path: str, refusals: Refusals) -> Iterator[Line]:
     """Neutral events from JSON lines."""
     for line, value in values:
+        note_number(value, path, line, refusals)
         try:
             event = _event(value, path, line, refusals)
             if event is not None:

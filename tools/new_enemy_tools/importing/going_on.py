@@ -70,6 +70,9 @@ class Left(NamedTuple):
     doubts: Sequence[Sequence[Optional[str]]] = ()
     # the length and the checksum of the table of ids
     ids: Optional[Sequence[Union[int, str]]] = None
+    # the last number of the sequence, and the first that no line has
+    sequence: Optional[int] = None
+    missing: Optional[int] = None
 
 
 def read_left(path: str) -> Left:

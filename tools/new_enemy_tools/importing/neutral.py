@@ -74,6 +74,7 @@ def gather_events(path: str, lines: Lines, jobs: int, refusals: Refusals) -> Ite
         for line in read_events(source.values(refusals), path, refusals):
             lines.add(line)
             yield lines.facts.count
+        lines.facts.numbers.merge(refusals.numbers)
         return
     events = Events(path, refusals)
     for found in shared(partial(events.block, source), (place for place, _ in source.placed()), jobs):
@@ -83,4 +84,5 @@ def gather_events(path: str, lines: Lines, jobs: int, refusals: Refusals) -> Ite
         else:
             lines.add_piece(found[0])
             refusals.merge(found[1])
+        lines.facts.numbers.merge(refusals.numbers)
         yield lines.facts.count

@@ -12,6 +12,7 @@ from new_enemy_tools.importing.feed import Moment, asked_of, moment_of, placed, 
 from new_enemy_tools.importing.located import List, line_at, line_of
 from new_enemy_tools.importing.models import Given, said_by
 from new_enemy_tools.importing.openfga_answers import answers_of, relationship_of
+from new_enemy_tools.importing.pages import Page, refuse_missing
 from new_enemy_tools.importing.reading import Bad, get, spelled
 from new_enemy_tools.importing.refusals import Refusals
 from new_enemy_tools.importing.service import (Answer, Log, Looked, ServiceRules, demand_of, nested, one_of, refuse_wild_tuplesets,
@@ -31,8 +32,6 @@ ASKS_FOR_NEWEST = {json.dumps(one).encode(): asks for one, asks in CONSISTENCY.i
 # Where a Write says what becomes of tuples that are there already, or are not; and what it says where it makes all its changes or none.
 PASSES_OVER = (("writes", "on_duplicate"), ("deletes", "on_missing"))
 IN_FULL = (None, "", "error")
-MISSING = ("these changes go on from a `continuation_token` that no page of the log gives: a page of changes is missing; give all pages from the "
-           "first on, or from the base state on")
 REWRITES = ("this", "computedUserset", "tupleToUserset", "union", "intersection", "difference")
 
 MOMENT = b'(?:%s|"(%s+)")' % (WHOLE, TEXT)
@@ -301,7 +300,7 @@ class OpenFgaLog(Log):
 
     def placed(self, lines: Lines, skew: Optional[int]) -> Lines:
         self._refuse_stores()
-        self._refuse_missing_pages(lines, skew is not None or lines.facts.is_sequenced)
+        refuse_missing(lines, skew is not None, self.base_at is not None, self.refusals)
         self.refuse_unseen(lines)
         # Of a call the service does not say which changes are its; where the log has any, it has all.
         lines = self.with_calls(lines, lambda row: None)
@@ -339,33 +338,21 @@ class OpenFgaLog(Log):
         return isinstance(get(value, "changes"), list) or get(value, "operation") is not None or (
             get(value, "tuple_key") is not None and get(value, "timestamp") is not None)
 
-    def refuse_partial(self, request: object, changes: object, path: str, line: int) -> None:
+    def refuse_partial(self, request: object, changes: object, stamp: Stamp, path: str, line: int) -> None:
         """Of a page that begins at a time it is known what was before where the base state has that; a page behind another one begins there."""
-        super().refuse_partial(request, changes, path, line)
+        super().refuse_partial(request, changes, stamp, path, line)
         since, behind, ends = get(request, "start_time"), get(request, "continuation_token") or "", get(changes, "continuation_token") or ""
         if not isinstance(behind, str) or not isinstance(ends, str):
             raise Bad("a `continuation_token` is no text")
         if request is not None and isinstance(get(changes, "changes"), list):
-            self.refusals.pages.append((hash(behind) if behind else None, hash(ends), len(get(changes, "changes")), path, line))
+            found = hash(behind) if behind else None, hash(ends), len(get(changes, "changes"))
+            self.refusals.pages.append(Page(*found, path, line, stamp.sequence))
         if not since or behind:
             return
         begins, base = nanoseconds(since), self.base_at and self.base_at.time
         if begins is None or base is None or begins > base:
             raise Bad("the request of these changes has a `start_time`, and the log does not have those before: give all changes, or a base state "
                       "of that time")
-
-    def _refuse_missing_pages(self, lines: Lines, is_ordered: bool) -> None:
-        """Each page begins behind one that the log has, which stands before it where stamps give no order; the first may where the base state ends.
-        Where some changes have no request, a page may begin behind these."""
-        pages = self.refusals.pages
-        if not pages or sum(count for _, _, count, _, _ in pages) != sum(1 for _ in lines.writes()):
-            return
-        ends = {given for behind, given, *_ in pages if given != behind} if is_ordered else set()
-        first = pages[0][0] if self.base_at is not None else None
-        for behind, given, _, path, line in pages:
-            if behind is not None and behind not in ends and behind != first:
-                self.refusals.refuse(path, line, MISSING)
-            ends.add(given)
 
     def writes(self, value: dict[str, Any], stamp: Stamp, path: str, line: int) -> Iterator[Event]:
         page = get(value, "changes")

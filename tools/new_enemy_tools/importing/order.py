@@ -1,12 +1,25 @@
 """The order of events: that of one sequencer, or that of clocks that may be apart by so many milliseconds."""
-from typing import Iterable, Optional, TypeVar
+from collections import deque
+from typing import Generic, Iterable, Iterator, Optional, TypeVar
 
 from new_enemy_tools.importing import causes
 from new_enemy_tools.importing.events import Entry, Event, Line
 from new_enemy_tools.importing.refusals import Refusals
+from new_enemy_tools.importing.sorting import sorted_lines
 from new_enemy_tools.importing.spool import Facts
 
 Some = TypeVar("Some", bound=Line)
+MILLISECOND = 1_000_000
+
+
+class Placed(Generic[Some]):
+    """A line, and whether it is left out."""
+
+    def __init__(self, line: Some):
+        self.line, self.is_out = line, False
+
+    def kept(self) -> tuple[Some, ...]:
+        return () if self.is_out else (self.line,)
 
 
 def lowest_of(entry: Entry) -> int:
@@ -17,9 +30,11 @@ def lowest_of(entry: Entry) -> int:
 
 
 def in_order(lines: Iterable[Line], facts: Facts, skew: Optional[int], refusals: Refusals) -> Iterable[Line]:
-    """The lines in their order; only those that stamps order are held in memory."""
-    if skew is not None or facts.is_sequenced:
-        return ordered(list(lines), skew, refusals)
+    """The lines in their order; of those that stamps order only what may still move is in memory."""
+    if skew is not None:
+        return _apart(sorted_lines(_timed(lines, refusals), _time), skew * MILLISECOND, refusals)
+    if facts.is_sequenced:
+        return _once(sorted_lines(lines, _sequence), refusals)
     if len(facts.files) > 1 and not facts.is_chained:
         second = list(facts.files)[1]
         refusals.refuse(second, facts.files[second], "events of several files (%s) have no order: give each line the `sequence` "
@@ -39,15 +54,15 @@ def is_before_base(line: Line, place: int, facts: Facts, skew: Optional[int]) ->
 def ordered(lines: list[Some], skew: Optional[int], refusals: Refusals) -> list[Some]:
     """Lines by their stamps, or as they stand."""
     if skew is not None:
-        return _by_time(lines, skew * 1_000_000, refusals)
+        return list(_apart(sorted(_timed(lines, refusals), key=_time), skew * MILLISECOND, refusals))
     if lines and all(line.sequence is not None for line in lines):
-        return _by_sequence(lines, refusals)
+        return list(_once(sorted(lines, key=_sequence), refusals))
     return lines
 
 
 def _sequence(event: Line) -> tuple[int, int]:
-    assert event.sequence is not None
-    return event.sequence
+    """A gap that does not say where it stands may be anywhere, and so stands before all else."""
+    return event.sequence or (-1, 0)
 
 
 def _time(event: Line) -> int:
@@ -55,43 +70,52 @@ def _time(event: Line) -> int:
     return event.time
 
 
-def _by_sequence(events: list[Some], refusals: Refusals) -> list[Some]:
-    result = sorted(events, key=_sequence)
-    for before, event in zip(result, result[1:]):
-        if before.sequence == event.sequence:
+def _once(events: Iterable[Some], refusals: Refusals) -> Iterator[Some]:
+    """Lines in order, of which no two may have one number."""
+    before: Optional[Line] = None
+    for event in events:
+        if before is not None and before.sequence is not None and before.sequence == event.sequence:
             refusals.refuse(event.file, event.line, "sequence %d stands at %s:%d too"
-                            % (_sequence(event)[0], before.file, before.line))
-    return result
+                            % (before.sequence[0], before.file, before.line))
+        before = event
+        yield event
 
 
-def _by_time(events: list[Some], skew: int, refusals: Refusals) -> list[Some]:
-    timed = [event for event in events if event.time is not None]
+def _timed(events: Iterable[Some], refusals: Refusals) -> Iterator[Some]:
+    """Those that have a time; of one clock in one file they rise. Files of one clock may be given in any order."""
+    last: dict[tuple[str, str], Line] = {}
     for event in events:
         if event.time is None:
             _leave_out(event, causes.WITHOUT_TIME, "the line has no `time`, which --skew orders by", refusals)
-    # Files of one clock may be given in any order.
-    last: dict[tuple[str, str], Line] = {}
-    for event in timed:
+            continue
         before = last.get((event.clock, event.file))
-        if before is not None and _time(event) < _time(before):
+        if before is not None and event.time < _time(before):
             refusals.refuse(event.file, event.line, "its time is before that of %s:%d, of the same clock"
                             % (before.file, before.line))
         last[event.clock, event.file] = event
-    result = sorted(timed, key=_time)
-    lost: set[int] = set()
-    for number, event in enumerate(result):
-        place = number - 1
-        while place >= 0 and _time(event) - _time(result[place]) <= skew:
-            other = result[place]
-            is_unsure = event.clock != other.clock or event.file != other.file and event.time == other.time
-            if is_unsure and not lost & {id(event), id(other)} and _matters(event, other):
+        yield event
+
+
+def _apart(events: Iterable[Some], skew: int, refusals: Refusals) -> Iterator[Some]:
+    """Lines in the order of their times, without checks of which it is not known whether they came before another one."""
+    near: deque[Placed[Some]] = deque()
+    for event in events:
+        while near and _time(event) - _time(near[0].line) > skew:
+            yield from near.popleft().kept()
+        placed = Placed(event)
+        for other in reversed(near):
+            before = other.line
+            is_unsure = event.clock != before.clock or event.file != before.file and event.time == before.time
+            if is_unsure and not placed.is_out and not other.is_out and _matters(event, before):
+                apart = format((_time(event) - _time(before)) / MILLISECOND, "g")
                 told = "which came first, this %s or the %s at %s:%d, is not known: they are %s ms apart, and the skew is %d ms" % (
-                    event.kind, other.kind, other.file, other.line, format((_time(event) - _time(other)) / 1e6, "g"), skew // 1_000_000)
-                out: Line = event if isinstance(event, Entry) else other
-                _leave_out(out, causes.ORDER_UNKNOWN, told, refusals, event)
-                lost.add(id(out))
-            place -= 1
-    return [event for event in result if id(event) not in lost]
+                    event.kind, before.kind, before.file, before.line, apart, skew // MILLISECOND)
+                out = placed if isinstance(event, Entry) else other
+                _leave_out(out.line, causes.ORDER_UNKNOWN, told, refusals, event)
+                out.is_out = True
+        near.append(placed)
+    for placed in near:
+        yield from placed.kept()
 
 
 def _leave_out(event: Line, cause: str, told: str, refusals: Refusals, at: Optional[Line] = None) -> None:

@@ -31,7 +31,7 @@ def unwrapped(value: Any, keys: Iterable[str]) -> Any:
     if not isinstance(value, dict):
         return value
     data = value.get("data")
-    if _is_event(value):
+    if is_event(value):
         found = {key: get(data, key) for key in ("request", "response", "error", "status")}
         added = both(added_in(data), added_in(value), "the event and its `data`")
         return _filled({**found, "time": value.get("time"), "method": value.get("type"), **added})
@@ -45,8 +45,9 @@ def unwrapped(value: Any, keys: Iterable[str]) -> Any:
     return _filled({**found, **given})
 
 
-def _is_event(value: dict[str, Any]) -> bool:
-    return "specversion" in value and isinstance(value.get("data"), dict)
+def is_event(value: Any) -> bool:
+    """Whether a line is an event of CloudEvents."""
+    return isinstance(value, dict) and "specversion" in value and isinstance(value.get("data"), dict)
 
 
 def added_in(value: dict[str, Any]) -> dict[str, Any]:
@@ -66,7 +67,7 @@ def mistyped(value: Any) -> Iterator[Unread]:
     """Keys of a printed line that are no keys of a server, but a recorder's with a slip: nobody would read them."""
     if not isinstance(value, dict):
         return
-    data = value["data"] if _is_event(value) else {}
+    data = value["data"] if is_event(value) else {}
     if not data and not Joining.takes(value) and "raw_request" not in value:
         return
     for part in (value, data):
@@ -137,6 +138,15 @@ def is_stream(value: dict[str, Any]) -> bool:
     return str(value.get("grpc.method_type")).endswith("stream")
 
 
+def is_plain_end(value: Any) -> bool:
+    """Whether a line says no more than that a call ended well, of which only its id matters."""
+    if not isinstance(value, dict) or value.get("message") != FINISHED or value.get("grpc.code") != "OK":
+        return False
+    others = {REQUEST, RESPONSE, "sequence", *REQUEST_ID[1:]}
+    return REQUEST_ID[0] in value and value.keys().isdisjoint(others) and not _is_health(value.get("grpc.service")) \
+        and not any(mistyped(value))
+
+
 def steps_of(value: Any) -> list[Step]:
     """What a line does to what waits, if it does anything."""
     if not Joining.takes(value) or _is_health(value.get("grpc.service")):
@@ -179,14 +189,23 @@ class Joining:
         if found not in self.waiting:
             raise Bad("the log has no request of the response with the `requestID` %s" % found[:80])
         request, _, added = self.waiting[found]
-        self.answered[found] = None
-        if len(self.answered) > ANSWERED:
-            del self.answered[next(iter(self.answered))]
-        if not is_stream(value):
-            del self.waiting[found]
+        self.answer(found, is_stream(value))
         given = {key: value[key] for key in keys if key in value and key not in ("time", "error", "method")}
         given |= both(added, added_in(given), "the lines of the request and of the response")
         return _filled({**told, "request": request, "response": plain_of(value[RESPONSE]), **given})
+
+    def answer(self, found: str, is_stream: bool = False) -> None:
+        """Notes that a call was answered, whose request waits on where more responses may come."""
+        self.answered[found] = None
+        if len(self.answered) > ANSWERED:
+            del self.answered[next(iter(self.answered))]
+        if not is_stream:
+            self.waiting.pop(found, None)
+
+    def end(self, found: str) -> None:
+        """Notes that a call that was answered ended well."""
+        self.waiting.pop(found, None)
+        self.answered.pop(found, None)
 
     def wait(self, found: str, value: dict[str, Any], line: int) -> None:
         """Keeps the request of a line."""

@@ -4,6 +4,8 @@ from collections import Counter
 from typing import TYPE_CHECKING, NamedTuple, Optional
 
 from new_enemy_tools.coverage import Coverage, counted
+from new_enemy_tools.importing.numbers import Numbers
+from new_enemy_tools.importing.pages import Page
 
 if TYPE_CHECKING:
     from new_enemy_tools.importing.events import Entry
@@ -50,13 +52,14 @@ class Refusals:
         self.deleted: list[tuple[Optional[int], str, int]] = []
         # of each call that wrote, and whose line does not say all of that, the first line
         self.unseen: dict[str, tuple[str, int]] = {}
-        # of each page of changes that was asked for, in short, the token that it begins behind, if any, and the one that it ends with; how many
-        # changes it has, and its line
-        self.pages: list[tuple[Optional[int], int, int, str, int]] = []
+        # the pages of changes that were asked for
+        self.pages: list[Page] = []
         # the stores that calls name, each with the first line that does
         self.stores: dict[str, tuple[str, int]] = {}
         self.doubts: list[tuple[str, Optional[str], str]] = []
         self.versions: set[tuple[str, str, str]] = set()
+        # the numbers of a sequencer that lines have which were read in full
+        self.numbers = Numbers()
         # whether a content check was left out of which it is not known what it issued
         self.has_lost_version = False
 
@@ -77,6 +80,7 @@ class Refusals:
         self.updated += other.updated
         self.deleted += other.deleted
         self.pages += other.pages
+        self.numbers.merge(other.numbers)
         for call, place in other.unseen.items():
             self.unseen.setdefault(call, place)
         for store, place in other.stores.items():

@@ -6,10 +6,12 @@ from new_enemy_tools import limits
 from new_enemy_tools.importing import causes, located, passing, printed
 from new_enemy_tools.importing.block import Reader, Usual, When
 from new_enemy_tools.importing.called import with_calls
-from new_enemy_tools.importing.carried import Blocks, Carried, Otherwise, is_as_read
+from new_enemy_tools.importing.carried import Blocks, Carried, Otherwise, has_steps
 from new_enemy_tools.importing.checks import NEWEST, Look, Row
-from new_enemy_tools.importing.events import EVERY, STAMP, Entry, Event, Line, Relationship, Stamp, newest_of, sequence_of, stamp_of
+from new_enemy_tools.importing.events import (EVERY, STAMP, Entry, Event, Line, Relationship, Stamp, newest_of, note_number,
+                                              sequence_of, stamp_of)
 from new_enemy_tools.importing.packed import Indexer
+from new_enemy_tools.importing.pairing import Pairing
 from new_enemy_tools.importing.reading import Bad, get
 from new_enemy_tools.importing.refusals import Refusals
 from new_enemy_tools.importing.shapes import Form, Said
@@ -120,6 +122,7 @@ class Log:
     CONTENT_CHECK: Form
     WRITE: Form
     LOGGED: tuple[tuple[Form, Form], ...] = ()
+    CALLS: tuple[Form, ...] = ()
 
     def __init__(self, rules: ServiceRules, base_at: Any, refusals: Refusals):
         self.rules, self.base_at, self.refusals = rules, base_at, refusals
@@ -191,12 +194,14 @@ class Log:
     def gather(self, path: str, lines: Lines, jobs: int) -> Iterator[int]:
         """Adds the lines of a log; how many there are, now and then. New rules matter to all behind them, which one process reads."""
         checks, contents = zip((self.CHECK, self.CONTENT_CHECK), *self.LOGGED)
-        usual = Usual(checks, contents, (self.WRITE,), self.look_of, self.when_of, self._takes, self.relation_of)
+        usual = Usual(checks, contents, (self.WRITE,), self.look_of, self.when_of, self._takes, self.relation_of,
+                      self.CALLS)
         source, reader = located.Source(path), Reader(path, usual, Indexer(tuplesets_of(self.rules.event), self.HAS_PLACES))
         if not source.is_lines():
             for line in self.events(path, source.values(self.refusals)):
                 lines.add(line)
                 yield lines.facts.count
+            lines.facts.numbers.merge(self.refusals.numbers)
             self._end(path, self.joining.left())
             return
         blocks = Blocks(source, partial(self._block, source, reader), jobs)
@@ -208,6 +213,7 @@ class Log:
             else:
                 lines.add_piece(found[0])
                 self.refusals.merge(found[1])
+            lines.facts.numbers.merge(self.refusals.numbers)
             yield lines.facts.count
         self._end(path, blocks.left)
 
@@ -224,10 +230,9 @@ class Log:
             return given
         kept = self.refusals, self.joining
         try:
-            self.refusals, self.joining = Refusals(self.refusals.skip), given.joining()
-            read, *others = reader.pieces(block, partial(self._full, reader.path))
-            if not is_as_read(block, self.joining.steps):
-                return None
+            self.refusals, self.joining = Refusals(self.refusals.skip), printed.Joining()
+            pairing = Pairing(self.joining, given, partial(self._full, reader.path), reader.ends)
+            read, *others = reader.pieces(block, pairing.full, pairing if has_steps(block) else None)
             # A key of new rules may be written in another way.
             return given if others or not isinstance(read, Read) else (read, self.refusals)
         except Otherwise:
@@ -241,6 +246,8 @@ class Log:
 
     def events(self, path: str, values: Iterable[tuple[int, Any]]) -> Iterator[Line]:
         for line, given in values:
+            if not printed.is_event(given):
+                note_number(given, path, line, self.refusals)
             for key in printed.mistyped(given):
                 self.refusals.refuse(path, line, key.said())
             try:
@@ -264,14 +271,14 @@ class Log:
         if is_check and get(changes, self.DECIDES[0]) is not None:
             yield from self._checks(value, stamp, path, line)
         elif self.is_write(changes):
-            self.refuse_partial(get(value, "request"), changes, path, line)
+            self.refuse_partial(get(value, "request"), changes, stamp, path, line)
             yield from self.writes(changes, stamp, path, line)
         elif (rules := self.new_rules(value)) is not None:
             yield from self.change(rules, value, stamp, path, line)
         else:
             yield from self._call(value, is_check, stamp, path, line)
 
-    def refuse_partial(self, request: object, changes: object, path: str, line: int) -> None:
+    def refuse_partial(self, request: object, changes: object, stamp: Stamp, path: str, line: int) -> None:
         """Of changes that were asked for in part it is not known what stands between them; raises Bad."""
         found = get(changes, "changes") or get(get(changes, "result") or changes, "updates")
         asked = [key for key in self.PARTIAL if get(request, key)] if found else []

@@ -25,6 +25,8 @@ TIME = rb'"(\d{4}-\d\d-\d\d[Tt](?:[01]\d|2[0-3]):[0-5]\d:[0-5]\d(?:\.\d{1,9})?[Z
 STAMP = rb"(?:%s|([1-9][0-9]{0,9}\.[0-9]{1,9}))" % TIME
 GOAL = ("type", "id", "relation", "user_type", "user_id")
 USER_RELATION = "user_relation"
+# the id of a call, of which only matters that it stands twice
+CALL_ID = "call"
 # A plain value that nothing reads.
 FREE = rb'(?:"%s*"|-?(?:0|[1-9][0-9]{0,17})(?:\.[0-9]{1,18})?(?:[eE][-+]?[0-9]{1,2})?|true|false|null)' % TEXT
 QUOTE = b'"'
@@ -47,16 +49,19 @@ def field(pattern: bytes, *names: str, is_steady: bool = True) -> Field:
 # of a key that a line may have with null; and of one that nothing reads
 NULL = field(b"(?!)")
 UNREAD = field(FREE, is_steady=False)
+CALL = field(b'"(?P<call>[!#-\\[\\]-~]+)"', CALL_ID)
+SAME_CALL = field(b'"(?P=call)"')
 
 
 class Form(NamedTuple):
     """The keys of one kind of line: those whose values may differ, those that a line may have with any one value, and those of which nothing
-    reads the value. Where `read` names the keys of a whole line that something reads, all others are such."""
+    reads the value. Where `read` names the keys of a whole line that something reads, all others are such; such a line stands so deep."""
 
     fields: Mapping[Path, Field]
     fixed: frozenset[Path]
     free: frozenset[Path] = frozenset()
     read: Optional[frozenset[str]] = None
+    depth: int = 0
 
     @property
     def holders(self) -> frozenset[Path]:
@@ -64,14 +69,16 @@ class Form(NamedTuple):
         return frozenset(path[:count] for path in (*self.fields, *self.fixed, *self.free) for count in range(len(path)))
 
     def is_free(self, path: Path) -> bool:
-        return path in self.free or self.read is not None and bool(path) and path[0] not in self.read
+        is_known = self.read is None or len(path) <= self.depth or path[self.depth] in self.read
+        return path in self.free or not is_known
 
 
-def form(fields: Mapping[str, Field], *fixed: str, free: Iterable[str] = (), read: Optional[frozenset[str]] = None) -> Form:
-    """Of paths whose keys stand between dots, as snake_case has them."""
+def form(fields: Mapping[str, Field], *fixed: str, free: Iterable[str] = (), read: Optional[frozenset[str]] = None,
+         depth: int = 0) -> Form:
+    """Of paths whose keys stand between dots, as snake_case has them; a dot within a key is a hyphen there."""
     def split(paths: Iterable[str]) -> frozenset[Path]:
         return frozenset(tuple(path.split(".")) for path in paths)
-    return Form({tuple(path.split(".")): one for path, one in fields.items()}, split(fixed), split(free), read)
+    return Form({tuple(path.split(".")): one for path, one in fields.items()}, split(fixed), split(free), read, depth)
 
 
 class Item(NamedTuple):
@@ -95,12 +102,14 @@ def item_of(groups: dict[str, int]) -> Item:
 class Shape:
     """An expression for lines, and the places of its groups."""
 
-    __slots__ = ("match", "quotes", "items", "goal", "rest", "names", "time", "epoch", "sequence", "hits", "looks", "kind", "sides")
+    __slots__ = ("match", "quotes", "is_steady", "items", "goal", "rest", "names", "time", "epoch", "sequence", "hits", "looks", "kind", "sides")
 
-    def __init__(self, match: Callable[[bytes], Optional[re.Match[bytes]]], quotes: Optional[int], line: dict[str, int],
+    def __init__(self, match: Callable[[bytes], Optional[re.Match[bytes]]], quotes: int, is_steady: bool, line: dict[str, int],
                  items: Iterable[dict[str, int]]):
-        """The groups by their names: those of the line, and of each of its items. All lines have so many quotation marks, if these are known."""
-        self.match, self.quotes = match, quotes
+        """The groups by their names: those of the line, and of each of its items. A line has so many quotation marks; of one that is steady
+        all have."""
+        self.match, self.quotes, self.is_steady = match, quotes, is_steady
+        line.pop(CALL_ID, 0)
         # 0 where the lines have none
         self.time, self.epoch, self.sequence = (line.pop(name, 0) for name in ("time", "epoch", "sequence"))
         self.items = [item_of(line)._replace(names=(), rest=())] if GOAL[0] in line else [item_of(one) for one in items]
@@ -126,7 +135,8 @@ def needed(said: Said, name: str) -> bytes:
 
 
 def _key(text: bytes) -> str:
-    return re.sub("[A-Z]", lambda found: "_" + found[0].lower(), text.decode())
+    """A key as the paths of forms have it."""
+    return re.sub("[A-Z]", lambda found: "_" + found[0].lower(), text.decode()).replace(".", "-")
 
 
 def _places(raw: bytes) -> Iterator[tuple[Path, int, int]]:
@@ -171,7 +181,7 @@ def shape_of(raw: bytes, given: Form) -> Optional[Shape]:
             if key not in holders and not is_free:
                 return None
         elif taken is not None and (is_free or value != b"null"):
-            if not re.fullmatch(taken.pattern, value):
+            if taken is not SAME_CALL and not re.fullmatch(taken.pattern, value):
                 return None
             parts += [re.escape(raw[at:start]), taken.pattern]
             is_steady &= taken.is_steady
@@ -187,7 +197,23 @@ def shape_of(raw: bytes, given: Form) -> Optional[Shape]:
     if not goals or not all(set(GOAL) <= one.keys() for one in goals) or GOAL[0] in line and groups:
         return None
     match = re.compile(b"".join(parts) + re.escape(raw[at:])).fullmatch
-    return Shape(match, raw.count(QUOTE) if is_steady else None, line, groups.values())
+    return Shape(match, raw.count(QUOTE), is_steady, line, groups.values())
+
+
+def flat_expression(raw: bytes, fixed: frozenset[str]) -> Optional[Callable[[bytes], Optional[re.Match[bytes]]]]:
+    """For lines that differ from this one in plain values of other keys than these; none where it has anything else."""
+    if b"\\" in raw or b"\r" in raw:
+        return None
+    parts, at = list[bytes](), 0
+    for path, start, end in _places(raw):
+        if len(path) > 1 or path and raw[start:end] in (b"{", b"["):
+            return None
+        if path and path[0] not in fixed:
+            if not re.fullmatch(FREE, raw[start:end]):
+                return None
+            parts += [re.escape(raw[at:start]), FREE]
+            at = end
+    return re.compile(b"".join(parts) + re.escape(raw[at:])).fullmatch
 
 
 class Shapes:
@@ -195,7 +221,8 @@ class Shapes:
 
     def __init__(self, *listed: Shape):
         self.listed = list(listed)
-        # by the number of quotation marks of a line the shapes that it may have; and those that lines of any number may have
+        # by the number of quotation marks of a line the shapes that it may have, the likely ones first; and those that lines of any
+        # number may have
         self.by_quotes: dict[int, list[Shape]] = {}
         self.others: list[Shape] = []
         self.sort()
@@ -206,6 +233,7 @@ class Shapes:
 
     def sort(self) -> None:
         self.listed.sort(key=lambda shape: -shape.hits)
-        self.others[:] = [shape for shape in self.listed if shape.quotes is None]
-        for quotes in {shape.quotes for shape in self.listed if shape.quotes is not None}:
-            self.by_quotes[quotes] = [shape for shape in self.listed if shape.quotes in (None, quotes)]
+        self.others[:] = [shape for shape in self.listed if not shape.is_steady]
+        for quotes in {shape.quotes for shape in self.listed}:
+            self.by_quotes[quotes] = [shape for shape in self.listed if shape.quotes == quotes] + [
+                shape for shape in self.others if shape.quotes != quotes]

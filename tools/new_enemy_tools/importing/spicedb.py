@@ -3,7 +3,7 @@ import re
 from dataclasses import replace
 from typing import Any, Iterator, Optional
 
-from new_enemy_tools.importing import located, printed, visibility
+from new_enemy_tools.importing import located, printed, shapes, visibility
 from new_enemy_tools.importing.block import When
 from new_enemy_tools.importing.checks import Look, Row
 from new_enemy_tools.importing.events import EVERY, Event, Line, Relationship, Stamp, put_stamp
@@ -51,6 +51,32 @@ def _forms(path: str, *fixed: str, read: Optional[frozenset[str]] = None) -> tup
     return check, content
 
 
+ASKED, TOLD = "asked.grpc-request-content.", "told.grpc-response-content."
+# The keys of a line of the log of requests and responses that are read.
+PRINTED = printed.ADDED | Log.KEYS | {"grpc-request-content", "grpc-response-content", "request_i_d", "request_id", "message",
+                                      "grpc-service", "grpc-method", "grpc-method_type", "grpc-code"}
+# A request and its response have one id.
+JOINED = {"asked.request_i_d": shapes.CALL, "told.request_i_d": shapes.SAME_CALL, "told.time": field(TIME, "time")}
+STEADY = tuple("%s.%s" % (part, key) for part in ("asked", "told")
+               for key in ("grpc-service", "grpc-method", "grpc-method_type", "message"))
+
+
+def _logged(fields: dict[str, Field], *fixed: str) -> Form:
+    """That of a request and its response, as the server logs them."""
+    return form({**JOINED, **fields}, *STEADY, *fixed, free=("asked.time",), read=PRINTED, depth=1)
+
+
+def _logged_checks() -> tuple[Form, Form]:
+    """Those of a check and of a content check."""
+    needs = ASKED + "consistency._requirement."
+    asked = {**_goal(ASKED, "permission", ID), TOLD + "checked_at.token": field(b'"(%s+)"' % TEXT, "snapshot"),
+             TOLD + "permissionship": field(b"([12])", "reply"), needs + "_fully_consistent": field(b"(true)", "newest")}
+    token, version = field(b'"(%s+)"' % TEXT, "token"), field(LABEL, "version")
+    paths = (needs + "_at_least_as_fresh.token", "told.version"), ("told.content.token", "told.content.version")
+    check, content = (_logged({**asked, at: token, label: version}, needs + "_minimize_latency") for at, label in paths)
+    return check, content
+
+
 def key_of(revision: Revision) -> Optional[int]:
     """What two tokens of one write have in common."""
     return revision.snapshot.own if revision.snapshot else revision.number
@@ -73,7 +99,10 @@ class SpiceDbLog(Log):
     GIVE_CHANGES = "give the watch stream, which has each change with its revision"
     DECIDES = ("permissionship", "pairs", "resourceObjectId", "subject", "subjectObjectId")
     CHECK, CONTENT_CHECK = _forms("")
-    LOGGED = (_forms("data.", "specversion", "type", read=printed.READ | {"time"}),)
+    LOGGED = _forms("data.", "specversion", "type", read=printed.READ | {"time"}), _logged_checks()
+    CALLS = (_logged({**_goal(ASKED + "updates.*.relationship.", "relation", b"%s+" % TEXT), TOLD + "written_at.token": field(
+        b'"(%s+)"' % TEXT, "revision"), ASKED + "updates.*.relationship.subject.optional_relation": field(
+            b'"(\\.\\.\\.|%s*)"' % WORD, USER_RELATION)}, ASKED + "updates.*.operation"),)
     WRITE = form({"%s%s" % (result, path): one for result in ("", "result.") for path, one in {
         **_goal("updates.*.relationship.", "relation", b"%s+" % TEXT), "changes_through.token": field(b'"(%s+)"' % TEXT, "revision"),
         "updates.*.relationship.subject.optional_relation": field(b'"(\\.\\.\\.|%s*)"' % WORD, USER_RELATION),
@@ -231,7 +260,7 @@ class SpiceDbLog(Log):
             looked = self._looked(revision, token, None if version is None else version.decode(), said.get("newest") is not None)
         except (Bad, Older):
             return None
-        return Look(said["reply"] == b"HAS", looked.snapshot, looked.shown, looked.token, looked.version,
+        return Look(said["reply"] in (b"HAS", b"2"), looked.snapshot, looked.shown, looked.token, looked.version,
                     None if looked.asked is None else tuple(map(plain, looked.asked)))
 
     def moment(self, value: dict[str, Any], content: Optional[dict[str, Any]]) -> Looked:

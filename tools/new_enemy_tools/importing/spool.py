@@ -1,11 +1,13 @@
 """What is gone through several times and does not stay in memory: rows of plain values, in a file of their own."""
 import marshal
 import tempfile
+from operator import lt
 from typing import IO, Iterable, Iterator, NamedTuple, Optional, Union
 
 from new_enemy_tools.ids import Ids
 from new_enemy_tools.importing.checks import NEWEST, Row
 from new_enemy_tools.importing.events import EVERY, Entry, Event, Line, Relationship
+from new_enemy_tools.importing.numbers import Numbers
 from new_enemy_tools.importing.packed import Packed, packed_of
 
 BATCH = 1 << 12
@@ -45,12 +47,17 @@ class Spool:
         self.file.write(data)
         self.starts.append((at, at + len(data)))
 
+    def batch(self, number: int) -> bytes:
+        """A batch that is not in memory."""
+        assert self.file is not None
+        start, end = self.starts[number]
+        self.file.seek(start)
+        return self.file.read(end - start)
+
     def batches(self, first: int = 0) -> Iterator[bytes]:
         """The rows as they are handed to other processes, from a batch on."""
-        for start, end in self.starts[first:]:
-            assert self.file is not None
-            self.file.seek(start)
-            yield self.file.read(end - start)
+        for number in range(first, len(self.starts)):
+            yield self.batch(number)
         if self.rows:
             yield marshal.dumps(self.rows)
 
@@ -88,6 +95,8 @@ class Facts:
         # the first sequence and the last, and whether all lines but the first rules have one, each a greater one than the line before
         self.sequences: Optional[tuple[tuple[int, int], tuple[int, int]]] = None
         self.is_rising = True
+        # those of all lines, also of lines that have no event
+        self.numbers = Numbers()
         self.is_chained = False
         self.has_newest = self.has_between = self.has_groups = self.has_every = self.has_asked = self.has_calls = False
 
@@ -124,6 +133,20 @@ class Facts:
         else:
             self.sequences = (sequence if self.sequences is None else self.sequences[0]), sequence
 
+    def note_sequences(self, numbers: list[int], lines: list[int], file: str) -> None:
+        """Those of lines between which no other one stands."""
+        first, last = numbers[0], numbers[-1]
+        is_run = numbers == list(range(first, first + len(numbers)))
+        self.note_sequence((first, 0))
+        if is_run:
+            self.numbers.add(first, file, lines[0], last)
+        else:
+            self.is_rising &= all(map(lt, numbers, numbers[1:]))
+            for number, line in zip(numbers, lines):
+                self.numbers.add(number, file, line)
+        if self.is_rising and self.sequences is not None:
+            self.sequences = self.sequences[0], (last, 0)
+
     def note_checks(self, file: str, first: int, has_all: bool = False) -> None:
         """Lines of a file, of which the first is told, and whether all have a sequence, which is noted of each."""
         self.files.setdefault(file, first)
@@ -139,6 +162,7 @@ class Facts:
         for file, line in other.files.items():
             self.files.setdefault(file, line)
         self.is_sequenced &= other.is_sequenced
+        self.numbers.merge(other.numbers)
         self.is_rising &= other.is_rising and (self.sequences is None or other.sequences is None or self.sequences[1] < other.sequences[0])
         if self.sequences is None or other.sequences is None:
             self.sequences = self.sequences or other.sequences

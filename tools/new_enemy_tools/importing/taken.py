@@ -46,6 +46,8 @@ class Taken:
         self.last = base_revision
         # where the last write stood; none where it is the base state
         self.last_place: Optional[tuple[str, int, Optional[str]]] = None
+        # the first number of the sequence that no line has
+        self.missing: Optional[int] = None
         self.count = 0
         self.declared_names: set[Name] = set()
 
@@ -62,6 +64,8 @@ class Taken:
         self.count += 1
         if isinstance(line, tuple):
             self._close()
+            if self.missing is not None and self._is_behind_missing(line):
+                return
             kept = line if self._is_known(line) else self._taken(line)
             if kept is not None:
                 self._keep(row_of(kept) if isinstance(kept, Entry) else kept)
@@ -85,6 +89,14 @@ class Taken:
         else:
             self.keep(line)
 
+    def _is_behind_missing(self, row: tuple[Any, ...]) -> bool:
+        """Whether a check may stand behind a line that is missing; such a line may be a write, so the check is not audited."""
+        entry = Entry._make(row)
+        if self.missing is None or entry.sequence is not None and entry.sequence[0] < self.missing:
+            return False
+        self.refusals.unmapped_check(entry, causes.LINE_MISSING, entry.told)
+        return True
+
     def _close(self) -> None:
         """Keeps the commit that is open."""
         if self.open:
@@ -94,7 +106,7 @@ class Taken:
     def _take_block(self, block: Packed, spans: Spans) -> None:
         """Takes what many lines name once for all of them."""
         index = block.index
-        if not self._is_plain(index):
+        if self.missing is not None or not self._is_plain(index):
             for row in block.rows():
                 self._take(line_of(row), spans)
             return

@@ -9,6 +9,8 @@ EPOCH = datetime(1970, 1, 1, tzinfo=timezone.utc)
 SECOND = timedelta(seconds=1)
 # Of a time to seconds so many letters.
 SECONDS = len("2024-05-06T07:08:09")
+# No time is longer.
+LONGEST = len("2024-05-06T07:08:09.123456789+00:00")
 
 
 @lru_cache(1 << 16)
@@ -27,7 +29,7 @@ def _of_text(text: str) -> Optional[int]:
 
 def nanoseconds(text: object) -> Optional[int]:
     """Nanoseconds since 1970, or None where the text is no time."""
-    return _of_text(text) if isinstance(text, str) else None
+    return _of_text(text) if isinstance(text, str) and len(text) <= LONGEST else None
 
 
 def text_of_time(at: int) -> str:

@@ -55,10 +55,10 @@ class Counts:
         self._take_time(entry.time)
 
     def take_times(self, times: str) -> None:
-        """The times of many checks, one a line."""
-        listed = [one for one in times.split("\n") if one]
+        """The times of many checks in UTC, one a line; their letters have the order of times where they have none for the zone."""
+        listed = [one[:-1] for one in (times if times.isupper() else times.upper()).split("\n") if one]
         for one in (min(listed), max(listed)) if listed else ():
-            self._take_time(nanoseconds(one))
+            self._take_time(nanoseconds(one + "Z"))
 
     def _take_time(self, time: Optional[int]) -> None:
         if time is not None:

@@ -15,7 +15,8 @@ NUMBER = re.compile(r"([0-9]{1,30})(?:\.([0-9]{10}))?")
 # The decimals of PostgreSQL before it had snapshots. A hybrid clock counts nanoseconds, and is much longer.
 OLDER = re.compile(r"[0-9]{1,15}\.[0-9]{1,15}")
 SHOWN = 5
-
+# Longer texts are read each time, and not kept.
+KEPT = 1 << 12
 
 Kind = TypeVar("Kind")
 
@@ -161,12 +162,18 @@ def _of_text(text: str) -> Revision:
 
 def read_revision(text: object) -> Optional[Revision]:
     """The revision of a token, or of a number in its place; None where the text is neither. Raises Older."""
-    return _read_text(text) if isinstance(text, str) else None
+    if not isinstance(text, str):
+        return None
+    # Many checks have one token.
+    return _known(text) if len(text) <= KEPT else _read_text(text)
 
 
 @lru_cache(1 << 12)
+def _known(text: str) -> Optional[Revision]:
+    return _read_text(text)
+
+
 def _read_text(text: str) -> Optional[Revision]:
-    """Many checks have one token."""
     try:
         return _of_text(text if NUMBER.fullmatch(text) or OLDER.fullmatch(text) else _revision_text(text))
     except (Malformed, binascii.Error, ValueError, TypeError, AttributeError):

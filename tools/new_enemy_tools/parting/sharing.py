@@ -1,6 +1,7 @@
 """Blocks of a file, shared by processes."""
 import itertools
 import os
+import sys
 import time
 from collections import deque
 from concurrent.futures import Future, ProcessPoolExecutor
@@ -12,6 +13,9 @@ from typing import Any, Callable, Generator, Iterable, Iterator, TypeVar
 from new_enemy_tools.parting.faults import PartsFault
 
 SECOND = 1.0
+# So long a thread of this process may work while another one waits that hands blocks to the processes, or takes what they made. A
+# result comes in many parts, and for each of them that one waits anew.
+TURN = 0.0002
 Given = TypeVar("Given")
 Made = TypeVar("Made")
 # What a process of a pool does with a block; it has it from the start, so that a large table is shared and not sent.
@@ -44,6 +48,8 @@ def shared(work: Callable[[Given], Made], blocks: Iterable[Given], jobs: int) ->
         return
     with ProcessPoolExecutor(jobs, get_context("fork"), _begin, (work, os.getpid())) as pool:
         waiting: deque[Future[Made]] = deque()
+        turn = sys.getswitchinterval()
+        sys.setswitchinterval(TURN)
         try:
             for block in blocks:
                 waiting.append(pool.submit(_do, block))
@@ -53,3 +59,5 @@ def shared(work: Callable[[Given], Made], blocks: Iterable[Given], jobs: int) ->
                 yield waiting.popleft().result()
         except BrokenProcessPool:
             raise PartsFault("a process that places lines was killed") from None
+        finally:
+            sys.setswitchinterval(turn)
