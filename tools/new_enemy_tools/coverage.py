@@ -94,9 +94,11 @@ class Coverage(NamedTuple):
     def plus(self, other: "Coverage") -> "Coverage":
         """Of two stretches of a log."""
         times = [one for one in (self.since, self.until, other.since, other.until) if one is not None]
-        return Coverage(self.checks + other.checks, *(_sum(one, more) for one, more in zip(self[1:4], other[1:4])),  # type: ignore[arg-type]
+        return Coverage(self.checks + other.checks, _sum(self.in_part, other.in_part),
+                        _sum(self.not_audited, other.not_audited), _sum(self.lost, other.lost),
                         self.uncounted + other.uncounted, self.dark + other.dark, min(times, default=None), max(times, default=None),
-                        self.open + other.open, self.last_file if other.last_file is None else other.last_file, self.unknown or other.unknown)
+                        self.open + other.open, self.last_file if other.last_file is None else other.last_file,
+                        self.unknown or other.unknown)
 
     def row(self) -> dict[str, Any]:
         """As an object of JSON; a key stands there where it has a value."""
@@ -175,9 +177,11 @@ def of_row(value: object) -> Coverage:
     numbers = [value.get(name, 0) for name in ("checks", "uncounted_gaps", "uncounted_ns", "open")]
     if not all(type(one) is int and one >= 0 for one in numbers):
         raise ValueError
+    in_part, not_audited, lost = counts
     last, unknown = value.get("last_file"), value.get("unknown")
-    return Coverage(numbers[0], *counts, numbers[1], numbers[2], nanoseconds(value.get("from")), nanoseconds(value.get("to")), numbers[3],
-                    last if type(last) is int else None, None if unknown is None else ODD.sub("?", str(unknown)))
+    return Coverage(numbers[0], in_part, not_audited, lost, numbers[1], numbers[2], nanoseconds(value.get("from")),
+                    nanoseconds(value.get("to")), numbers[3], last if type(last) is int else None,
+                    None if unknown is None else ODD.sub("?", str(unknown)))
 
 
 def mark_of(coverage: Coverage) -> str:

@@ -28,7 +28,7 @@ from new_enemy_tools.importing.going_on import Left, read_left, refuse_other, wr
 from new_enemy_tools.importing.neutral import gather_events
 from new_enemy_tools.importing.numbers import Numbers
 from new_enemy_tools.importing.refusals import Refusals
-from new_enemy_tools.importing.service import ServiceRules
+from new_enemy_tools.importing.service import Log, ServiceRules
 from new_enemy_tools.importing.spool import Lines
 from new_enemy_tools.importing.writing import Piece, Written
 from new_enemy_tools.parting.faults import PartsFault
@@ -96,7 +96,7 @@ def given_of(words: list[str]) -> tuple[Parser, Namespace]:
     return parser, given
 
 
-LOGS = {"openfga": openfga.OpenFgaLog, "spicedb": spicedb.SpiceDbLog}
+LOGS: dict[str, type[Log]] = {"openfga": openfga.OpenFgaLog, "spicedb": spicedb.SpiceDbLog}
 
 
 def base_at(parser: Parser, given: Namespace) -> Any:

@@ -21,9 +21,12 @@ def _rows(lines: Lines) -> Iterator[Union[Event, Row]]:
 
 def _seen_by(row: Row) -> Optional[int]:
     """The revision that a line saw; what is written later saw all before."""
+    seen: Optional[int]
     if row[0] in CHECKS:
-        return row[5] if row[9] is None else row[9]
-    return None if row[5] or row[3] is None else row[3] - 1
+        seen = row[5] if row[9] is None else row[9]
+    else:
+        seen = None if row[5] or row[3] is None else row[3] - 1
+    return seen
 
 
 class Seen:
@@ -53,10 +56,12 @@ def _in_place(lines: Lines) -> Optional[Lines]:
     made.facts.has_calls = False
     for batch in lines.spool.batches():
         found = found_in(batch)
-        checks = found.checks() if isinstance(found, Packed) else None
         # the highest revision that the checks up to each saw
-        looked = [] if checks is None else [look[1] for look in checks.looks]
-        highs = [] if checks is None else list(accumulate(map(looked.__getitem__, column(checks.look_of)), max))
+        highs = list[int]()
+        if isinstance(found, Packed):
+            checks = found.checks()
+            looked: list[int] = [look[1] for look in checks.looks]
+            highs += accumulate(map(looked.__getitem__, column(checks.look_of)), max)
         for at, row in found.among() if isinstance(found, Packed) else ((0, row) for row in found):
             if row[0] == "rules":
                 continue
@@ -67,8 +72,8 @@ def _in_place(lines: Lines) -> Optional[Lines]:
             highest = highest if seen is None else max(highest, seen)
         highest = max([highest, *highs[-1:]])
         if isinstance(found, Packed):
-            odd = [one._replace(row=_written(one.row)) for one in found.index.odd]
-            made.spool.add_batch(found._replace(index=found.index._replace(odd=odd)).dumped())
+            odd = [one._replace(row=_written(one.row)) for one in found.head.odd]
+            made.spool.add_batch(found._replace(head=found.head._replace(odd=odd)).dumped())
         else:
             made.spool.add_batch(marshal.dumps(list(map(_written, found))))
     return made

@@ -118,7 +118,7 @@ class Core:
             out = [one for one in self.writer.stored if isinstance(one.user, Userset) and pair_of(one.set, one.user) in pairs]
             self.refusals.note("circle", told)
             self.refusals.left_out[CIRCULAR] += len(out)
-            self.refusals.doubts += [tuple(one.set) for one in out]
+            self.refusals.doubts += [(one.set.namespace, one.set.id, one.set.relation) for one in out]
             for one in map(self.writer.named, out):
                 if isinstance(one.user, Userset):
                     self.circular.add(pair_of(one.set, one.user))
@@ -297,7 +297,7 @@ class Core:
         if doubts.has(Userset(*entry.goal[:3])):
             self.refusals.unmapped_check(entry, causes.HANGS_ON_LEFT_OUT, entry.told)
             if entry.kind == "content" and entry.version is not None:
-                self.taken.issued.pop((*entry.goal[:2], entry.version), None)
+                self.taken.issued.pop((entry.goal[0], entry.goal[1], entry.version), None)
             return None
         return row if entry.kind != "check" or entry.version is None else tuple(self.taken.known(entry, True))
 

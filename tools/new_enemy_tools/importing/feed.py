@@ -162,7 +162,7 @@ class Placing:
 
     def block(self, given: Packed, places: list[Optional[int]]) -> Optional[Packed]:
         """A block with numbers, whose rows that are taken by themselves have none yet; None where each line has to be looked at by itself."""
-        index = given.index
+        index = given.head
         first = places[0] if places else 0
         # By their sequences changes may stand in another order than their lines.
         if not self.models.is_plain or first is None or places != list(range(first, first + len(places))) or any(
@@ -219,7 +219,7 @@ def placed(lines: Lines, base: Moment, given: Given, skew: Optional[int], refusa
 
     for found in lines.stream():
         if isinstance(found, Packed):
-            mine, at = places[at:at + len(found.index.writes)], at + len(found.index.writes)
+            mine, at = places[at:at + len(found.head.writes)], at + len(found.head.writes)
             _add_block(found, placing.block(found, mine) if skew is None and not lines.facts.is_sequenced else None, mine, numbered, made)
         elif not isinstance(found, Event) or found.kind != "rules":
             line = row_of(found) if isinstance(found, Event) else found
@@ -241,12 +241,12 @@ def _add_block(given: Packed, block: Optional[Packed], places: list[Optional[int
     done: dict[int, Optional[Row]] = {}
     if block is not None:
         odd, writes = list[Odd](), 0
-        for one in given.index.odd:
+        for one in given.head.odd:
             row = done[id(one.row)] = numbered(one.row, places[one.writes + writes] if is_change(one.row) else 0)
             writes += is_change(one.row)
             odd += [] if row is None else [one._replace(row=row)]
-        if len(odd) == len(given.index.odd):
-            made.add_packed(block._replace(index=block.index._replace(odd=odd)))
+        if len(odd) == len(given.head.odd):
+            made.add_packed(block._replace(head=block.head._replace(odd=odd)))
             return
     next_place = iter(places)
     for row in given.rows():
@@ -273,9 +273,10 @@ def _changes(lines: Lines, base: Moment, given: Given, skew: Optional[int],
     places: list[Optional[int]] = []
     by_event: dict[int, Optional[int]] = {}
     for found in in_order if are_sorted else lines.stream():
-        if isinstance(found, Packed) and (base.time is None or min(found.index.writes, default=base.time) > base.time) and repeated.take(found.index):
-            places += range(len(times) + 1, len(times) + len(found.index.writes) + 1)
-            times += found.index.writes
+        if isinstance(found, Packed) and (base.time is None or min(found.head.writes, default=base.time) > base.time) \
+                and repeated.take(found.head):
+            places += range(len(times) + 1, len(times) + len(found.head.writes) + 1)
+            times += found.head.writes
             continue
         for event in _changes_in(found):
             if event.kind == "rules":
@@ -306,7 +307,7 @@ def _times(lines: Lines) -> Iterator[int]:
     """The times of all changes, as they stand."""
     for found in lines.stream():
         if isinstance(found, Packed):
-            yield from found.index.writes
+            yield from found.head.writes
         else:
             yield from (event.revision for event in _changes_in(found) if event.kind != "rules")
 
@@ -360,8 +361,8 @@ def _asked(lines: Lines) -> Iterator[Optional[str]]:
     """The models that checks name; of many together once."""
     for found in lines.stream():
         if isinstance(found, Packed):
-            yield from (asked[2] for asked in found.index.asked)
-        for row in (odd.row for odd in found.index.odd) if isinstance(found, Packed) else (found,):
+            yield from (asked[2] for asked in found.head.asked)
+        for row in (odd.row for odd in found.head.odd) if isinstance(found, Packed) else (found,):
             if isinstance(row, tuple) and row[0] in CHECKS and row[11]:
                 yield row[11][2]
 

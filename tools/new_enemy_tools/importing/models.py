@@ -43,7 +43,8 @@ def said_by(rules: ServiceRules) -> dict[str, Said]:
             told.setdefault(relation.name, []).append([of, relation.rewrite, users])
             named = reads.setdefault(relation.name, set())
             named.update(name for place in places(relation.rewrite) for name in place.names)
-            named.update(user_relation for _, user_relation in users if user_relation not in (None, EVERY))
+            named.update(user_relation for _, user_relation in users
+                         if user_relation is not None and user_relation != EVERY)
     return {name: Said(json.dumps(listed, sort_keys=True), tuple(sorted(reads[name]))) for name, listed in told.items()}
 
 

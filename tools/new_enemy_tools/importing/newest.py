@@ -71,7 +71,7 @@ def put_newest(stream: list[Line], skew: Optional[int], refusals: Refusals) -> l
         if isinstance(event, Entry) and event.kind == "check" and event.version is not None:
             named.setdefault((*event.goal[:2], event.version), number)
     places: list[tuple[int, int, int]] = []
-    kept = []
+    kept: list[Line] = []
     for number, event in enumerate(stream):
         count, place = len(writes), (number, 0, number)
         if isinstance(event, Entry) and event.newest and event.lowest is None:

@@ -78,26 +78,27 @@ class Packed(NamedTuple):
     """A block; `names` are what gets a number up to each row that is taken by itself, and behind the last. Where revisions are places in a
     feed, `first` is that of its first write, and `numbers` are the snapshot and the token of what is asked."""
 
-    index: Index
+    head: Index
     names: bytes
     data: bytes
     first: Optional[int] = None
     numbers: Optional[dict[Row, tuple[int, Optional[int]]]] = None
 
     def dumped(self) -> bytes:
-        index = self.index._replace(odd=list(map(tuple, self.index.odd)), issued=list(map(tuple, self.index.issued)))  # type: ignore[arg-type]
-        return marshal.dumps((tuple(index), *self[1:]))
+        odd, issued = [tuple(one) for one in self.head.odd], [tuple(one) for one in self.head.issued]
+        head = self.head._replace(odd=odd, issued=issued)  # type: ignore[arg-type]
+        return marshal.dumps((tuple(head), *self[1:]))
 
     def checks(self) -> Checks:
         return numbered(Checks(*marshal.loads(self.data)), self.numbers)
 
     def kept(self, rows: list[tuple[int, int, Row]]) -> bytes:
         """The block as it is kept: these rows in place of those that were taken by themselves."""
-        return marshal.dumps((self.data, [odd.place for odd in self.index.odd], rows, self.first, self.numbers))
+        return marshal.dumps((self.data, [odd.place for odd in self.head.odd], rows, self.first, self.numbers))
 
     def among(self) -> Iterator[tuple[int, Row]]:
         """The rows among the checks with the number of checks before each."""
-        odd = {one.place: one.row for one in self.index.odd}
+        odd = {one.place: one.row for one in self.head.odd}
         writes, base = 0, (self.first or 0)
         for place, (at, _, row) in enumerate(Checks(*marshal.loads(self.data)).others):
             is_write = row[0] == "write" and not row[5]

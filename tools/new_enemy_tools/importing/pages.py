@@ -16,7 +16,7 @@ class Page(NamedTuple):
 
     behind: Optional[int]
     ends: int
-    count: int
+    changes: int
     file: str
     line: int
     sequence: Optional[int]
@@ -25,9 +25,9 @@ class Page(NamedTuple):
 def without_request(writes: "Iterable[WriteRow]", pages: Iterable[Page]) -> "list[WriteRow]":
     """The changes that stand in no page; both are in the order of the files."""
     found: list[WriteRow] = []
-    waiting = (page for page in pages if page.count)
+    waiting = (page for page in pages if page.changes)
     page = next(waiting, None)
-    left = page.count if page else 0
+    left = page.changes if page else 0
     for row in writes:
         if page is None or row.file != page.file or row.line < page.line:
             found.append(row)
@@ -35,7 +35,7 @@ def without_request(writes: "Iterable[WriteRow]", pages: Iterable[Page]) -> "lis
         left -= 1
         if not left:
             page = next(waiting, None)
-            left = page.count if page else 0
+            left = page.changes if page else 0
     return found
 
 

@@ -30,8 +30,8 @@ def unwrapped(value: Any, keys: Iterable[str]) -> Any:
     """The call that a printed line tells, with those of the recorder's keys that it has; any other line as it is. Raises Bad."""
     if not isinstance(value, dict):
         return value
-    data = value.get("data")
     if is_event(value):
+        data = value["data"]
         found = {key: get(data, key) for key in ("request", "response", "error", "status")}
         added = both(added_in(data), added_in(value), "the event and its `data`")
         return _filled({**found, "time": value.get("time"), "method": value.get("type"), **added})

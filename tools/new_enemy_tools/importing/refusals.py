@@ -143,8 +143,8 @@ class Refusals:
 
     def coverage(self, checks: int, in_part: Counter[str], since: Optional[int], until: Optional[int]) -> Coverage:
         """The sum of an import, by the checks of its trace, those in part, and the times of the first and the last check."""
-        return Coverage(checks, *(counted(one) for one in (in_part, self.not_audited, self.lost)), self.uncounted, self.dark, since, until,
-                        self.open, self.last_file)
+        return Coverage(checks, counted(in_part), counted(self.not_audited), counted(self.lost), self.uncounted,
+                        self.dark, since, until, self.open, self.last_file)
 
     def doubt(self, of: str, id_text: Optional[str], relation: str) -> None:
         """A userset (without an id: a relation) whose tuples or rule are left out."""

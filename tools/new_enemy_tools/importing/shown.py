@@ -65,7 +65,8 @@ class Shown:
 
     def change(self, revision: int, shown: str, file: str, line: int, time: Optional[int]) -> Iterator[str]:
         changes = self.changes.get(revision, ())
-        told = {"revision": shown, "from": "%s:%d" % (file, line), **({} if time is None else {"time": text_of_time(time)})}
+        told: dict[str, Any] = {"revision": shown, "from": "%s:%d" % (file, line),
+                                **({} if time is None else {"time": text_of_time(time)})}
         for at, change in enumerate(changes, self.times[revision] - len(changes) + 1):
             yield self._marked(value_line({**change, "at": at, **told}))
 
@@ -113,7 +114,8 @@ class Shown:
                                 ids.number("user", goal[3], goal[4]))
         token = self.demanded(goal, version, snapshot, token)
         look = Look(reply, snapshot, shown, token, None if version is None else ids.version(version), None)
-        made = entry_line(kind, text, self._looks([look], file)[0], line, _text(row[13]), *row[15:17], is_again)
+        part, named = row[15:17]
+        made = entry_line(kind, text, self._looks([look], file)[0], line, _text(row[13]), part, named, is_again)
         return self._marked(made) if self.mark else made
 
     def _namespace(self, declaration: Declaration) -> dict[str, Any]:

@@ -36,7 +36,7 @@ def _push(heap: list[tuple[Stamp, int, int, Line, Iterator[Row]]], number: int, 
     """The next line of a batch; of two with one stamp the one that stands first is given first."""
     for row in islice(rows, 1):
         found = rules[row[1]] if row[0] == "rules" else line_of(row)
-        line = Entry._make(found) if isinstance(found, tuple) else found
+        line: Line = Entry._make(found) if isinstance(found, tuple) else found
         heappush(heap, (stamp_of(line), number, place, line, rows))
 
 

@@ -83,7 +83,8 @@ def key_of(revision: Revision) -> Optional[int]:
 
 
 def _key_of_row(row: Row) -> Optional[int]:
-    return row[12][0][3] if row[12] else row[3]
+    number: Optional[int] = row[12][0][3] if row[12] else row[3]
+    return number
 
 
 class SpiceDbLog(Log):

@@ -5,7 +5,7 @@ from operator import lt
 from typing import IO, Iterable, Iterator, NamedTuple, Optional, Union
 
 from new_enemy_tools.ids import Ids
-from new_enemy_tools.importing.checks import NEWEST, Row
+from new_enemy_tools.importing.checks import NEWEST, Other, Row
 from new_enemy_tools.importing.events import EVERY, Entry, Event, Line, Relationship
 from new_enemy_tools.importing.numbers import Numbers
 from new_enemy_tools.importing.packed import Packed, packed_of
@@ -240,7 +240,7 @@ class Lines:
 
     def add_packed(self, packed: Packed) -> None:
         """Adds a block whose revisions were placed."""
-        facts, index = Facts(), packed.index
+        facts, index = Facts(), packed.head
         facts.files[index.file] = index.first
         facts.has_groups = bool(index.plain)
         facts.is_sequenced = facts.is_rising = False
@@ -305,9 +305,13 @@ class Lines:
         """The users that lines name, by type and id, in the order in which they are named first."""
         for batch in self.spool.batches():
             found, given = found_in(batch), 0
-            checks = found.checks() if isinstance(found, Packed) else None
-            users = checks.users if checks else []
-            for _, seen, row in checks.others if checks else ((0, 0, row) for row in found):
+            users, others = list[tuple[str, str]](), list[Other]()
+            if isinstance(found, Packed):
+                checks = found.checks()
+                users, others = checks.users, checks.others
+            else:
+                others = [(0, 0, row) for row in found]
+            for _, seen, row in others:
                 yield from users[given:seen]
                 given = seen
                 if row[0] in CHECKS:
@@ -319,9 +323,11 @@ class Lines:
     def spans(self) -> Iterator[tuple[int, int]]:
         """From where to where the checks looked, and what they demanded; of many together once."""
         for found in self.stream():
+            rows: list[Union[Event, Row]] = [found]
             if isinstance(found, Packed):
-                yield from zip(found.index.revisions, found.index.revisions)
-            for row in (odd.row for odd in found.index.odd) if isinstance(found, Packed) else (found,):
+                yield from zip(found.head.revisions, found.head.revisions)
+                rows = [odd.row for odd in found.head.odd]
+            for row in rows:
                 if isinstance(row, tuple) and row[0] in CHECKS:
                     yield row[5] if row[9] is None else row[9], row[5]
                     if row[7] not in (None, NEWEST):

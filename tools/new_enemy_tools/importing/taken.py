@@ -105,7 +105,7 @@ class Taken:
 
     def _take_block(self, block: Packed, spans: Spans) -> None:
         """Takes what many lines name once for all of them."""
-        index = block.index
+        index = block.head
         if self.missing is not None or not self._is_plain(index):
             for row in block.rows():
                 self._take(line_of(row), spans)
@@ -146,7 +146,7 @@ class Taken:
         """Takes what is named up to a row, and the plain writes and the saved versions between two places of each."""
         for run in names:
             self.ids.add(*run)
-        self._take_writes(block.index, start[0], end[0], spans)
+        self._take_writes(block.head, start[0], end[0], spans)
         self._take_issued(block, start[1], end[1])
 
     def _take_writes(self, index: Index, start: int, end: int, spans: Spans) -> None:
@@ -162,11 +162,11 @@ class Taken:
         self.last, self.last_place = revisions[-1], (index.file, *index.last)
 
     def _take_issued(self, block: Packed, start: int, end: int) -> None:
-        for version, goal, snapshot, token, asked, line in block.index.issued[start:end]:
+        for version, goal, snapshot, token, asked, line in block.head.issued[start:end]:
             if asked is not None and block.numbers is not None:
                 snapshot, demanded = block.numbers[asked]
                 token = token if demanded is None else demanded
-            self.issued[version] = ((tuple(goal), True, snapshot, None, token), block.index.file, line)
+            self.issued[version] = ((tuple(goal), True, snapshot, None, token), block.head.file, line)
 
     def _keep(self, row: tuple[Any, ...]) -> None:
         if self.among is None:
