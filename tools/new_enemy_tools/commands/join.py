@@ -9,9 +9,9 @@ import os
 import shutil
 from argparse import Namespace
 from functools import partial
-from typing import Iterator
+from typing import Iterable, Iterator
 
-from new_enemy_tools.commands.running import Parser
+from new_enemy_tools.commands.running import Parser, add_skew
 from new_enemy_tools.faults import DeviceFault
 from new_enemy_tools.importing.chained import end_of, in_chain
 from new_enemy_tools.importing.events import read_events
@@ -20,7 +20,7 @@ from new_enemy_tools.importing.refusals import Refusals
 from new_enemy_tools.recording.joining import Join
 from new_enemy_tools.recording.lines import ENCODE
 from new_enemy_tools.recording.log_files import NAME, LogFault, LogFiles
-from new_enemy_tools.recording.sketches import JOINED, Given, JoinFault, Row
+from new_enemy_tools.recording.sketches import JOINED, Given, JoinFault, Row, Value
 
 # So many lines are written at once.
 LINES = 1000
@@ -31,8 +31,7 @@ MOST = 1 << 62
 def given_of(words: list[str]) -> Namespace:
     parser = Parser(prog="ne join", description=__doc__)
     parser.add_argument("--out", required=True, metavar="FOLDER", help="the folder of the joined log, which is made")
-    parser.add_argument("--skew", type=int, default=1000, metavar="MS", help="by how many milliseconds the clocks of the recorders' machines may "
-                        "be apart (1000)")
+    add_skew(parser)
     parser.add_argument("--stale-by", type=float, default=0.0, metavar="SECONDS", help="how long OpenFGA may answer from its cache, for events of "
                         "applications (0)")
     parser.add_argument("logs", nargs="+", metavar="LOG", help="the folder of a recorder's log, or a file of an application's events")
@@ -52,11 +51,20 @@ class Refused(JoinFault):
         self.details = refusals.lines()
 
 
+def names_of(folder: str) -> list[str]:
+    return sorted(name for name in os.listdir(folder) if NAME.fullmatch(name))
+
+
 def log_of(folder: str) -> Given:
     """A recorder's log, whose files are a chain and whose lines can all be read; raises JoinFault."""
-    names = sorted(name for name in os.listdir(folder) if NAME.fullmatch(name))
+    names = names_of(folder)
     if not names:
         raise JoinFault("%s has no files of a log; give the folder of a recorder's log" % folder)
+    return read_log(folder, names)
+
+
+def read_log(folder: str, names: list[str], is_base: bool = False) -> Given:
+    """A log of some files, or of its base state alone; raises JoinFault."""
     refusals = Refusals(True)
     paths = in_chain([os.path.join(folder, name) for name in names], refusals)
     if paths is None:
@@ -65,12 +73,21 @@ def log_of(folder: str) -> Given:
         raise Refused(folder, refusals)
     # What is still written grows meanwhile.
     sizes = [(path, os.path.getsize(path) if path == paths[-1] and path.endswith(".jsonl") else MOST) for path in paths]
-    for row in rows_of(sizes):
+    rows = partial(base_of, sizes) if is_base else partial(rows_of, sizes)
+    for row in rows():
         for _ in read_events([(row.line, row.value)], row.file, refusals):
             pass
     if refusals.refused:
         raise Refused(folder, refusals)
-    return Given(folder, partial(rows_of, sizes), end_of(paths[-1]).said is not None)
+    return Given(folder, rows, is_base or end_of(paths[-1]).said is not None)
+
+
+def base_of(sizes: list[tuple[str, int]]) -> Iterator[Row]:
+    """The lines of files up to the end of the base state."""
+    for row in rows_of(sizes):
+        yield row
+        if row.value["event"] == "place":
+            return
 
 
 def rows_of(sizes: list[tuple[str, int]]) -> Iterator[Row]:
@@ -89,15 +106,13 @@ def rows_of(sizes: list[tuple[str, int]]) -> Iterator[Row]:
                 yield Row(path, line, value)
 
 
-def write(join: Join, folder: str) -> int:
-    """Writes the joined log whole or not at all; how many lines it has."""
-    part = folder.rstrip("/") + ".part"
-    shutil.rmtree(part, ignore_errors=True)
-    files, count = LogFiles(part, JOINED + join.service, age=float("inf")), 0
+def write(lines: Iterable[Value], files: LogFiles, folder: str) -> int:
+    """Writes lines as a log; how many there are. Raises DeviceFault."""
+    count = 0
     try:
         files.lock()
         waiting: list[bytes] = []
-        for value in join.lines():
+        for value in lines:
             waiting.append(ENCODE(value).encode() + b"\n")
             count += 1
             if len(waiting) == LINES:
@@ -105,10 +120,19 @@ def write(join: Join, folder: str) -> int:
                 waiting.clear()
         files.add(b"".join(waiting))
         files.close()
-        os.remove(os.path.join(part, "lock"))
-        os.rename(part, folder)
+        os.remove(os.path.join(files.folder, "lock"))
     except LogFault as fault:
         raise DeviceFault("cannot write %s: %s" % (folder, fault)) from None
+    return count
+
+
+def write_whole(join: Join, folder: str) -> int:
+    """Writes the joined log whole or not at all; how many lines it has."""
+    part = folder.rstrip("/") + ".part"
+    shutil.rmtree(part, ignore_errors=True)
+    try:
+        count = write(join.lines(), LogFiles(part, JOINED + join.service, age=float("inf")), folder)
+        os.rename(part, folder)
     finally:
         shutil.rmtree(part, ignore_errors=True)
     return count
@@ -122,7 +146,7 @@ def main(words: list[str]) -> int:
         folders = [one for one in given.logs if os.path.isdir(one)]
         own = [Given(one, partial(rows_of, [(one, os.path.getsize(one))]), True) for one in given.logs if one not in folders]
         join = Join([log_of(folder) for folder in folders], given.skew * 1_000_000, own, int(given.stale_by * 1e9))
-        count = write(join, given.out)
+        count = write_whole(join, given.out)
     except OSError as fault:
         raise DeviceFault("cannot use %s: %s" % (fault.filename, fault.strerror)) from None
     print("joined %d logs of %s: %d changes, %d lines" % (len(given.logs), join.service, join.way.spine.count, count))
