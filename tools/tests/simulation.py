@@ -25,6 +25,7 @@ from new_enemy_tools.recording.lines import time_text
 from new_enemy_tools.recording.messages import Beat, Bye, Ended, Started
 from new_enemy_tools.recording.openfga import Base, Changes, OpenFga
 from new_enemy_tools.recording.overlap import Change, Overlap
+from new_enemy_tools.recording.own_events import own_of
 from new_enemy_tools.recording.sketches import Given, Row
 from new_enemy_tools.recording.stored import Stored
 
@@ -439,7 +440,7 @@ class Apart(World):
 
     def everything(self):
         said = [*self.said, {"event": "over", "time": time_text(WALL + self.now), "asked": len(self.said) - 1}]
-        own = Given("own", lambda: (Row("own", number, row) for number, row in enumerate(said, 1)), True)
+        own = own_of(Given("own", lambda: (Row("own", number, row) for number, row in enumerate(said, 1)), True))
         return self.checks, list(Join([given_of("log", self.lines)], 0, [own], self.shape.stale).lines())
 
 

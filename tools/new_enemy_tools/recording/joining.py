@@ -12,7 +12,8 @@ from new_enemy_tools.importing.service import ServiceRules
 from new_enemy_tools.importing.times import nanoseconds
 from new_enemy_tools.recording.bearing import Bearing
 from new_enemy_tools.recording.lines import time_text
-from new_enemy_tools.recording.own_events import NEVER, Own, issued_by, lines_of, open_gap, own_of, refuse_other_store, timed_of
+from new_enemy_tools.recording.own_events import NEVER, Own, issued_by, lines_of, open_gap, refuse_other_store, timed_of
+from new_enemy_tools.recording.overheard import of_store
 from new_enemy_tools.recording.sketches import Change, Given, JoinFault, Sketch, Value, Version, last_of, refuse_unlike, version_of
 from new_enemy_tools.recording.spine import Numbered, Spine, Track
 
@@ -167,7 +168,7 @@ class Join:
     """Goes twice through logs: once for their changes, and once for all lines. `skew` is by how many nanoseconds the clocks of the
     machines may be apart, and `stale` how old the answers may be that applications tell of and that did not ask for the newest state."""
 
-    def __init__(self, given: list[Given], skew: int, own: Sequence[Given] = (), stale: int = 0):
+    def __init__(self, given: list[Given], skew: int, own: Sequence[Own] = (), stale: int = 0):
         self.skew = skew
         if not given:
             raise JoinFault("events of an application need a log of the changes: that of `ne record --changes-only`")
@@ -176,7 +177,7 @@ class Join:
         self.service, store = sketches[0].service, sketches[0].store
         self.sketches = self._in_order(sketches)
         self.way: Union[OfNumbers, OfPlaces] = OfNumbers(self.sketches) if store is None else self._places()
-        self.own = list(map(own_of, own))
+        self.own = [of_store(one, store) if one.store is None else one for one in own]
         refuse_other_store(self.own, store)
         self.timed = timed_of(self.sketches, skew, stale, self.way.bearing) if self.own and isinstance(self.way, OfPlaces) else None
         self.issued: set[Version] = set().union(*(one.issued for one in self.sketches), *map(issued_by, self.own))
@@ -247,7 +248,7 @@ class Join:
         """What an application says, in the order of the places."""
         assert self.timed is not None and isinstance(self.way, OfPlaces)
         log, timed = self.timed
-        told, found = {"file": own.name, "clock": own.name}, []
+        found = []
         for line, (row, said) in enumerate(lines_of(own, timed)):
             value, place = said.value, self.way.place(log, said.revision)
             if value["event"] in ("check", "content"):
@@ -255,7 +256,8 @@ class Join:
                 value, place = lost(value) if moved.value is None else moved.value, moved.place
             elif value["event"] == "gap":
                 value = self._earlier(value)
-            found.append(Placed(place, number, line, value if value["event"] == "gap" else {**value, **told, "line": row.line}, place))
+            found.append(Placed(place, number, line, value if value["event"] == "gap" else {
+                **value, "file": row.file, "line": row.line, "clock": own.name}, place))
         return iter(found)
 
     def _earlier(self, value: Value) -> Value:
@@ -285,7 +287,7 @@ class Join:
         return at is None or any(log != placed.log and until < at for log, until in enumerate(self.untils))
 
     def _open(self) -> Iterator[Value]:
-        end = max(one.until for one in self.sketches)
+        end = max(max(one.until, one.timed[1]) for one in self.sketches)
         for own in self.own:
             gap = open_gap(own, end, self.skew)
             if gap is not None:
