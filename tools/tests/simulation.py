@@ -151,6 +151,7 @@ class World:
         self.whole = set()
         self.tell_at = {"proxy": 0, "feed": 0}
         self.under_way, self.quiet_since = 0, 0
+        self.is_over = False
         # how many models were read
         self.model = 0
 
@@ -212,8 +213,8 @@ class World:
         self._put(at, self._told, self.core, message)
 
     def _told(self, core, message):
-        # What was told to a recorder that was killed meanwhile goes nowhere.
-        if core is self.core:
+        # What was told to a recorder that was killed meanwhile, or has ended, goes nowhere.
+        if core is self.core and not self.is_over:
             core.take(message, self._at())
             self._drain()
 
@@ -477,6 +478,8 @@ class Crowd(World):
         recorder.core.end(self._at())
         recorder._drain()
         recorder.overlap = None
+        # It takes no more.
+        recorder.is_over = True
         self.over.add(recorder)
 
     def _request(self):
