@@ -212,7 +212,7 @@ class Folders(DayCase):
         self.log("left", lines(change(1, "a"), check(1, 3))[1:])
         os.mkdir(self.path("right"))
         self.put("right/lock", "")
-        self.assertIn("entries 1\n", self.day("days", "events", "left", "right").stdout)
+        self.assertIn("entries 1\nright has no base state so far\n", self.day("days", "events", "left", "right").stdout)
         self.log("begun", lines(change(1, "a"), check(1, 4))[1:], is_open=True)
         # The base state is there, and the checks behind it are in no closed file.
         self.assertIn("the day has 0 checks", self.day("other", "events", "left", "begun", status=2).stderr)

@@ -42,8 +42,9 @@ def joined(days: Days, folders: list[str], ended: set[str], skew: int) -> Joined
         raise WindowFault("the days before are not of joined logs; give what they were made of, or another folder of days")
     read = {folder: log_of(folder) if folder in ended else closed_of(folder) for folder in folders}
     logs = [log for log in read.values() if log is not None]
+    unbegun = ["%s has no base state so far" % folder for folder, log in read.items() if log is None]
     if not logs:
-        return Joined(None, 0, ["no log has its base state so far"])
+        return Joined(None, 0, unbegun)
     join = join_day(logs, ended, skew, Before() if state is None else _read(state))
     folder = days.work(JOINED_LOG)
     files = LogFiles(folder, JOINED + join.service, size=1 << 62, age=float("inf"))
@@ -53,7 +54,7 @@ def joined(days: Days, folders: list[str], ended: set[str], skew: int) -> Joined
     count = write(join.lines(), files, folder)
     after, waiting = join.after(), join.waiting()
     write_whole(days.work(JOIN), [json.dumps(after._asdict())])
-    said = _said(waiting, [one.name for one in join.late])
+    said = _said(waiting, [one.name for one in join.late]) + unbegun
     return Joined(os.path.join(folder, os.listdir(folder)[0]) if count else None, waiting.checks, said)
 
 
