@@ -82,6 +82,15 @@ class Parts(Case):
         made, _, waiting = joined(before, ("left", self.FIRST), ("right", self.SECOND), over=["right"])
         self.assertEqual((events(made), waiting.checks), ([("write", 3), ("check", 3)], 0))
 
+    def test_a_log_that_missed_a_change_is_read_on_when_nothing_waits_for_it(self):
+        missed = lines(change(1, "a"), check(1, 4), change(2, "c", at=3), {**check(2, 8), "goal": ["document", "e", "viewer", "user", "a"]}, check(2, 9))
+        made, before, waiting = joined(Before(), ("left", self.FIRST), ("right", missed))
+        self.assertEqual((events(made)[2:], waiting.checks), ([("write", 1), ("check", 1), ("check", 1)], 4))
+        made, _, waiting = joined(before, ("left", self.FIRST), ("right", missed), over=["right"])
+        # The last bears on what was missed.
+        self.assertEqual((events(made), waiting.checks),
+                         ([("write", 2), ("check", 2), ("write", 3), ("check", 3), ("check", 3), ("unmapped", None)], 0))
+
     def test_a_log_that_was_killed_and_has_ended_has_a_gap_once(self):
         _, before, _ = joined(Before(), ("left", self.FIRST), ("killed", self.SECOND))
         made, before, _ = joined(before, ("left", self.FIRST), ("killed", self.SECOND), over=["killed"])

@@ -8,7 +8,7 @@ from hashlib import sha256
 from typing import Iterator, NamedTuple, Sequence
 
 from new_enemy_tools.importing.times import nanoseconds
-from new_enemy_tools.recording.joining import Join, Moved, OfPlaces, Placed, beginning_of, by_beginning, lost
+from new_enemy_tools.recording.joining import UNORDERED, Join, Moved, OfPlaces, Placed, beginning_of, by_beginning, lost
 from new_enemy_tools.recording.lines import time_text
 from new_enemy_tools.recording.own_events import NEVER
 from new_enemy_tools.recording.sketches import Given, JoinFault, Sketch, Unreached, Value, last_of, version_of
@@ -211,5 +211,6 @@ class DayJoin(Join):
         least = min(passed.values(), default=0)
         logs = sorted({log for log, place in passed.items() if place == least} | self.asked) if self.left or self.late else []
         late = sum(row.value["event"] in ENTRIES for one in self.late for row in one.rows())
-        return Waiting(late + sum(value["event"] in ENTRIES for value in self.left.values()),
+        left = sum(value["event"] in ENTRIES or value.get("reason") == UNORDERED for value in self.left.values())
+        return Waiting(late + left,
                        [(self.sketches[log].given.name, time_text(self.sketches[log].until)) for log in logs])
