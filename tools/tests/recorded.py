@@ -88,6 +88,12 @@ class Recorded(Case):
         self.addCleanup(file.close)
         return self.start(self.RECORD, "--" + self.SERVICE, "%s://127.0.0.1:%d" % (scheme, self.service_port), "--out", folder, *words, stderr=file)
 
+    def certificate(self, name):
+        """A certificate of its own authority, and its key."""
+        subprocess.run(["openssl", "req", "-x509", "-newkey", "ec", "-pkeyopt", "ec_paramgen_curve:prime256v1", "-nodes", "-days", "2", "-subj",
+                        "/CN=" + name, "-addext", "subjectAltName=DNS:localhost,IP:127.0.0.1", "-keyout", self.path(name + ".key"), "-out",
+                        self.path(name + ".pem")], check=True, capture_output=True)
+
     def is_listening(self):
         with socket.socket() as one:
             return one.connect_ex(("127.0.0.1", self.port)) == 0

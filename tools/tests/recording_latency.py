@@ -1,7 +1,7 @@
-"""How much later answers come through tools/record: recording_latency.py [SECONDS [RATE]]
+"""How much later answers come through tools/record: recording_latency.py [SECONDS [RATE [CONNECTIONS]]]
 
 A service that answers every check at once, and a client that asks so many checks a second over 16 connections, each at its time
-whether or not others have their answer. It asks the service and the recorder by turns, a second each, and prints both; also what a check
+whether or not others have their answer; with a RATE of 0 each connection asks again as soon as it has its answer. It asks the service and the recorder by turns, a second each, and prints both; also what a check
 costs in processor time (the recorder's two processes together, and beside them the service, which is asked twice as often), and its bytes
 in the log.
 """
@@ -73,18 +73,23 @@ class Connection(asyncio.Protocol):
             self.free.append(self)
 
 
-async def load(port, times, seconds, rate, first):
+async def load(port, times, seconds, rate, first, connections):
     """Asks at the given rate; requests for which no connection is free wait, and their time counts from when they were due."""
     free = []
-    for _ in range(CONNECTIONS):
+    for _ in range(connections):
         await asyncio.get_running_loop().create_connection(lambda: Connection(free, times), "127.0.0.1", port)
-    kept, start = list(free), time.perf_counter()
+    kept, start, number = list(free), time.perf_counter(), first
+    while not rate and time.perf_counter() < start + seconds:
+        while free:
+            number += 1
+            free.pop(0).ask(number, time.perf_counter())
+        await asyncio.sleep(0)
     for number in range(int(seconds * rate)):
         due = start + number / rate
         while time.perf_counter() < due or not free:
             await asyncio.sleep(max(0, min(0.0005, due - time.perf_counter())))
         free.pop(0).ask(first + number, due)
-    while len(free) < CONNECTIONS:
+    while len(free) < connections:
         await asyncio.sleep(0.001)
     for one in kept:
         one.transport.close()
@@ -98,14 +103,14 @@ def processor(process):
 
 def shown(times):
     listed = sorted(times)
-    return "p50 %.2f ms, p99 %.2f ms" % tuple(1000 * listed[int(len(listed) * part)] for part in (0.5, 0.99))
+    return "%d checks, p50 %.2f ms, p99 %.2f ms" % (len(listed), *(1000 * listed[int(len(listed) * part)] for part in (0.5, 0.99)))
 
 
 def main(words):
     if words == ["serve"]:
         asyncio.run(serve())
         return
-    seconds, rate = map(int, [*words, *("20", "1000")[len(words):]])
+    seconds, rate, connections = map(int, [*words, *("20", "1000", str(CONNECTIONS))[len(words):]])
     with tempfile.TemporaryDirectory() as room:
         service = subprocess.Popen([sys.executable, __file__, "serve"], stdout=subprocess.PIPE, text=True)
         port, through = int(service.stdout.readline()), free_port()
@@ -116,7 +121,7 @@ def main(words):
             times = {port: [], through: []}
             for turn in range(seconds):
                 for one in times:
-                    asyncio.run(load(one, times[one], 1, rate, turn * rate))
+                    asyncio.run(load(one, times[one], 1, rate, turn * (rate or 1_000_000), connections))
             recorded, until = [], time.monotonic() + PATIENCE
             while len(recorded) < len(times[through]) and time.monotonic() < until:
                 time.sleep(0.1)

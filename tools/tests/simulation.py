@@ -7,6 +7,7 @@ says: a right reply is never wrong at each state that the log leaves open, and a
 """
 import heapq
 import json
+from bisect import bisect_right
 from collections import Counter
 from functools import lru_cache
 from itertools import count, product
@@ -18,11 +19,13 @@ from new_enemy_tools.importing.openfga import ModelReader
 from new_enemy_tools.importing.refusals import Refusals
 from new_enemy_tools.importing.times import nanoseconds
 from new_enemy_tools.recording.core import Core, Now
-from new_enemy_tools.recording.joining import Join
+from new_enemy_tools.recording.days_joined import LATE, Before, join_day
+from new_enemy_tools.recording.joining import UNKNOWN, Join
 from new_enemy_tools.recording.lines import time_text
 from new_enemy_tools.recording.messages import Beat, Bye, Ended, Started
 from new_enemy_tools.recording.openfga import Base, Changes, OpenFga
 from new_enemy_tools.recording.overlap import Change, Overlap
+from new_enemy_tools.recording.own_events import own_of
 from new_enemy_tools.recording.sketches import Given, Row
 from new_enemy_tools.recording.stored import Stored
 
@@ -139,7 +142,7 @@ class World:
         self.core = Core(OpenFga(STORE, shape.stale, shape.hold, shape.told_horizon), shape.hold / 1e9)
         self.overlap = Overlap(None, shape.back)
         self.numbers = count(1)
-        self.checks, self.lines = [], []
+        self.checks, self.lines, self.drained_at = [], [], []
         # what was known from the readings, and from answers of writes: when, and of which commits; and of each commit until when it may
         # be known that it had not come
         self.known, self.since = [], {}
@@ -148,6 +151,7 @@ class World:
         self.whole = set()
         self.tell_at = {"proxy": 0, "feed": 0}
         self.under_way, self.quiet_since = 0, 0
+        self.is_over = False
         # how many models were read
         self.model = 0
 
@@ -209,13 +213,14 @@ class World:
         self._put(at, self._told, self.core, message)
 
     def _told(self, core, message):
-        # What was told to a recorder that was killed meanwhile goes nowhere.
-        if core is self.core:
+        # What was told to a recorder that was killed meanwhile, or has ended, goes nowhere.
+        if core is self.core and not self.is_over:
             core.take(message, self._at())
             self._drain()
 
     def _drain(self):
         self.lines.append(self.core.drained())
+        self.drained_at.append(self.now)
 
     def _beat(self):
         self._tell("proxy", Beat(self.now))
@@ -436,7 +441,7 @@ class Apart(World):
 
     def everything(self):
         said = [*self.said, {"event": "over", "time": time_text(WALL + self.now), "asked": len(self.said) - 1}]
-        own = Given("own", lambda: (Row("own", number, row) for number, row in enumerate(said, 1)), True)
+        own = own_of(Given("own", lambda: (Row("own", number, row) for number, row in enumerate(said, 1)), True))
         return self.checks, list(Join([given_of("log", self.lines)], 0, [own], self.shape.stale).lines())
 
 
@@ -473,6 +478,8 @@ class Crowd(World):
         recorder.core.end(self._at())
         recorder._drain()
         recorder.overlap = None
+        # It takes no more.
+        recorder.is_over = True
         self.over.add(recorder)
 
     def _request(self):
@@ -497,6 +504,30 @@ class Crowd(World):
         self.random.shuffle(given)
         checks = [one for recorder in self.all for one in recorder.checks]
         return checks, list(Join(given, 0).lines())
+
+
+class Daily(Crowd):
+    """The same, whose logs are joined day by day: at some times, and of each log the base state and some of the lines from before. One that has
+    ended is named as ended at once, or later."""
+
+    def everything(self):
+        random, closed, over, before, self.days = self.random, {}, set(), Before(), []
+        for at in [*sorted(random.randint(0, self.now) for _ in range(random.randint(1, 4))), self.now]:
+            given = []
+            for number, recorder in enumerate(self.all):
+                count, name = bisect_right(recorder.drained_at, at), "log%d" % number
+                closed[name] = random.randint(closed.get(name, 0), count) if at < self.now else len(recorder.lines)
+                base = next((place for place, lines in enumerate(recorder.lines[:count], 1) if b'"event":"place"' in lines), None)
+                if base is not None:
+                    given.append(given_of(name, recorder.lines[:max(base, closed[name])]))
+                if at == self.now or recorder in self.over and closed[name] == len(recorder.lines) and random.random() < 0.5:
+                    over.add(name)
+            random.shuffle(given)
+            if given:
+                join = join_day(given, over, 0, before)
+                self.days.append((list(join.lines()), join.waiting()))
+                before = join.after()
+        return [one for recorder in self.all for one in recorder.checks], [row for lines, _ in self.days for row in lines]
 
 
 def given_of(name, lines):
@@ -666,12 +697,42 @@ class Verdict:
         return False
 
 
+class OfDays(Verdict):
+    """Also that no day has a check that names a state behind it, and that nothing is left when all logs have ended."""
+
+    def faults(self):
+        return super().faults() + list(self._of_days())
+
+    def _of_days(self):
+        last = 0
+        for rows, _ in self.world.days:
+            last = max([last, *(row["revision"] for row in rows if row.get("revision") is not None)])
+            for row in rows:
+                if row["event"] in ("check", "content") and last < max(row.get("newest_between") or row.get("snapshot_between") or [row["snapshot"]]):
+                    yield "a check names a state behind its day"
+        unknown = {tuple(row["version"]) for row in self.rows if row.get("reason") == UNKNOWN}
+        if any(row["event"] == "content" and (*row["goal"][:2], row.get("version")) in unknown for row in self.rows):
+            yield "a version is left out that was saved in time"
+        if any(row.get("reason") == LATE for row in self.rows):
+            yield "content is left out that was there in time"
+        if self.world.days[-1][1].checks:
+            yield "checks are left when all have ended"
+
+
 def run_crowd(seed, count=None, **values):
     """The faults of one run with several recorders, whose logs are joined."""
     world = Crowd(seed, count or Random(seed).choice((2, 2, 3)))
     for name, value in {"shows": True, **values}.items():
         setattr(world.shape, name, value)
     return world, Verdict(world.run())
+
+
+def run_days(seed, **values):
+    """The faults of one run with several recorders, whose logs are joined day by day."""
+    world = Daily(seed, Random(seed).choice((1, 2, 2, 3)))
+    for name, value in {"shows": True, **values}.items():
+        setattr(world.shape, name, value)
+    return world, OfDays(world.run())
 
 
 def run_apart(seed, **values):

@@ -1,4 +1,4 @@
-"""Clients of SpiceDB over gRPC, by grpcio: spicedb_grpc_clients.py PORT CLIENTS REQUESTS; or PORT, to try what passes unchanged."""
+"""Clients of SpiceDB over gRPC, by grpcio: spicedb_grpc_clients.py PORT CLIENTS REQUESTS; or PORT [CA], to try what passes unchanged."""
 import sys
 import threading
 from random import Random
@@ -19,8 +19,13 @@ LONG = 120
 
 
 class Client:
-    def __init__(self, port):
-        self.channel = grpc.insecure_channel("127.0.0.1:%s" % port, [("grpc.use_local_subchannel_pool", 1)])
+    def __init__(self, port, ca=None):
+        target, options = "127.0.0.1:%s" % port, [("grpc.use_local_subchannel_pool", 1)]
+        if ca is None:
+            self.channel = grpc.insecure_channel(target, options)
+        else:
+            with open(ca, "rb") as file:
+                self.channel = grpc.secure_channel(target, grpc.ssl_channel_credentials(file.read()), options)
         # of the client's last write
         self.seen = ()
 
@@ -68,9 +73,9 @@ def run(port, number, requests, versions):
             client.check(user, "view", thing, FULL)
 
 
-def unchanged(port):
-    """Metadata, statuses and their details, as a client sees them."""
-    client = Client(port)
+def unchanged(port, ca):
+    """Metadata, statuses and their details, as a client sees them, over TLS where it is given the authority."""
+    client = Client(port, ca)
     answer, call = client.ask("CheckPermission", {"consistency": FULL, **asked("u0", "view", "d0")})
     found = [answer["permissionship"], dict(call.initial_metadata()).get("x-first")]
     for metadata, name in (((("x-refuse", "1"),), "CheckPermission"), ((), "ExpandPermissionTree")):
@@ -82,8 +87,8 @@ def unchanged(port):
 
 
 def main(words):
-    if len(words) == 1:
-        unchanged(words[0])
+    if len(words) < 3:
+        unchanged(*(words + [None])[:2])
         return
     port, clients, requests = words
     first = Client(port)

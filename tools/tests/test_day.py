@@ -84,7 +84,7 @@ class Days(DayCase):
         self.assertEqual(json.loads(self.get("days/day000002/summary.json")), {
             "logs": ["two"], "digest": json.loads(self.get("days/day000002/summary.json"))["digest"], "status": 1, "entries": 3, "findings": 4,
             "not_audited": 0, "held_over": 0, "verdict": "dirty", "coverage": {"checks": 3, "whole": 3},
-            "looked": {"checks": 3, "with_version": 1, "with_token": 0, "with_unknown": 0}})
+            "looked": {"checks": 3, "with_version": 1, "with_token": 0, "with_unknown": 0}, "held_back": 0})
 
     def assert_could_be_shown(self, run, low, high):
         """No line of the day's log, whose lines of the whole log are those above LOW up to HIGH, has a finding that this log cannot show."""

@@ -114,6 +114,16 @@ class GoingOn(CoreCase):
         for finding in ("F2", "F3", "F10"):
             self.assertIn(finding, found)
 
+    def test_a_state_that_is_still_to_come(self):
+        """A check that is right at no state so far may be right at one of the next day's log: it is counted, and not called wrong."""
+        goal, later = rel("1", "viewer", "anne"), rel("2", "viewer", "bob")
+        checks = [between(check(0, True, goal), 1, 2, True), between(content(0, "v", goal=goal), 1, 2, True), between(check(0, True, later), 1, 2, True)]
+        self.put("log", [RULES, write(1, later), *checks])
+        told = ["not audited: %s, first at log:3" % causes.STATE_TO_COME, "not audited 2: %s" % causes.STATE_TO_COME]
+        self.assertEqual(self.unaudited("events", "--from-empty", "--go-on", "left", "--trace", "day", "log"), told)
+        # Alone, the log ends there.
+        self.assertEqual(self.unaudited("events", "--from-empty", "--trace", "whole", "log"), [])
+
     def test_a_state_that_is_not_kept(self):
         """A check between states of which not all are kept is not audited, and others are."""
         for number in range(1, 4):

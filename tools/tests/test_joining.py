@@ -217,12 +217,12 @@ class Folders(Case):
 class Processes(OpenFga):
     """Two recorders with a third between them and the service, whose log is that of one in front of all."""
 
-    def start_two(self, share):
+    def start_two(self, share, *words):
         self.start_service(MODEL, share, "planted")
         self.prepare()
         first = self.start_recorder(folder="one", said="one.said")
         self.service_port, self.between = self.port, first
-        self.two = [(self.start_recorder(folder=name, said=name + ".said"), self.port) for name in ("left", "right")]
+        self.two = [(self.start_recorder(*words, folder=name, said=name + ".said"), self.port) for name in ("left", "right")]
         self.versions = {}
 
     def work(self, client, random, number, turn):

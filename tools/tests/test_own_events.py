@@ -7,7 +7,7 @@ from unittest import mock
 from new_enemy_tools.importing.times import nanoseconds
 from new_enemy_tools.recording import own_events
 from new_enemy_tools.recording.joining import Join
-from new_enemy_tools.recording.own_events import BEFORE, BEHIND, OTHER, Timed
+from new_enemy_tools.recording.own_events import BEFORE, BEHIND, OTHER, Timed, own_of
 from new_enemy_tools.recording.places import Places
 from new_enemy_tools.recording.sketches import Given, JoinFault, Row
 from tests.simulation import run_apart
@@ -53,7 +53,7 @@ def said(*rows, is_over=True, store="S"):
 def joined(log_rows, *own, skew=0, stale=0):
     def given(name, rows):
         return Given(name, lambda: (Row(name, number, row) for number, row in enumerate(rows, 1)), True)
-    return list(Join([given("log", log_rows)], skew, [given("own%d" % number, rows) for number, rows in enumerate(own)], stale).lines())
+    return list(Join([given("log", log_rows)], skew, [own_of(given("own%d" % number, rows)) for number, rows in enumerate(own)], stale).lines())
 
 
 class Simulated(Case):

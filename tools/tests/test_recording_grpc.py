@@ -3,8 +3,12 @@ import asyncio
 import importlib
 import json
 import os
+import shutil
+import signal
+import ssl
 import subprocess
 import sys
+import unittest
 from random import Random
 from types import ModuleType, SimpleNamespace
 from unittest import mock
@@ -73,6 +77,29 @@ class Grpc(Recorded):
         self.assertEqual(through, self.clients())
         self.assertIn("'FAILED_PRECONDITION', 'refused as asked', 'asked for'", through)
         self.end(recorder)
+
+
+    @unittest.skipUnless(shutil.which("openssl"), "there is no openssl")
+    def test_tls_on_both_sides(self):
+        """A recorder with TLS to its clients stands for a service with TLS; a new certificate is shown after SIGHUP."""
+        self.start_service()
+        plain = self.service_port
+        for name in ("first", "second"):
+            self.certificate(name)
+        first = self.start_recorder("--grpc", "--tls-cert", self.path("first.pem"), "--tls-key", self.path("first.key"), folder="one", said="one.said")
+        self.service_port = self.port
+        second = self.start_recorder("--grpc", "--service-ca", self.path("first.pem"), "--tls-cert", self.path("second.pem"), "--tls-key",
+                                     self.path("second.key"), scheme="https")
+        through = self.clients(self.path("second.pem"))
+        self.certificate("second")
+        second.send_signal(signal.SIGHUP)
+        self.wait_for(lambda: ssl.get_server_certificate(("127.0.0.1", self.port)).split() == self.get("second.pem").split())
+        self.assertEqual(self.clients(self.path("second.pem")), through)
+        self.port = plain
+        self.assertEqual(self.clients(), through)
+        for recorder in (second, first):
+            self.end(recorder)
+        self.assertEqual([len(self.of_kind("check", folder)) for folder in ("one", "log")], [2, 2])
 
 
 class Cut(Case):

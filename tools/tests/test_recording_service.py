@@ -161,11 +161,6 @@ class Keys(OpenFga):
 
 @unittest.skipUnless(shutil.which("openssl"), "there is no openssl")
 class Secured(OpenFga):
-    def certificate(self, name):
-        subprocess.run(["openssl", "req", "-x509", "-newkey", "ec", "-pkeyopt", "ec_paramgen_curve:prime256v1", "-nodes", "-days", "2", "-subj",
-                        "/CN=" + name, "-addext", "subjectAltName=DNS:localhost,IP:127.0.0.1", "-keyout", self.path(name + ".key"), "-out",
-                        self.path(name + ".pem")], check=True, capture_output=True)
-
     def shown(self):
         """The name in the certificate that a client is shown."""
         text = ssl.get_server_certificate(("127.0.0.1", self.port))

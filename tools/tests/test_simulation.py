@@ -49,8 +49,13 @@ class Holds(Case):
             recorded, lost = recorded + len(verdict.entries), lost + verdict.lost
         self.assertGreater(recorded, 30 * lost)
 
+    def test_a_reading_that_outruns_the_answer_of_a_write_of_several_tuples(self):
+        """Its changes are one commit all the same, and a reply from between them is wrong."""
+        for seed in (5007070, 5011957, 5030260):
+            self.assertEqual(run(seed)[1].faults(), [], "seed %d" % seed)
+
     def test_the_command(self):
-        for words in ([], ["--joined"], ["--spicedb"]):
+        for words in ([], ["--joined"], ["--days"], ["--spicedb"]):
             run = subprocess.run([sys.executable, os.path.join(TOOLS, "dev", "simulate"), "--seeds", "20", *words], capture_output=True, text=True,
                                  timeout=300)
             self.assertEqual((run.returncode, run.stdout.splitlines()[-1]), (0, "20 passed, 0 failed"), run.stderr)

@@ -34,8 +34,8 @@ class Totals(unittest.TestCase):
     def test_planted_bodies_add_up(self) -> None:
         *crates, whole = rows("### Planted bodies")
         self.assertGreater(len(crates), 15)
-        for column in (1, 2, 3):
-            self.assertEqual(sum(number(row[column].replace(":", ",")) for row in crates), number(whole[column]))
+        for column in (2, 3, 4):
+            self.assertEqual(sum(number(row[column].replace(":", "")) for row in crates), number(whole[column]))
 
     def test_random_cases(self) -> None:
         """How many there are stands in the tests' files, as constants or behind what the environment says."""
@@ -53,13 +53,6 @@ class Totals(unittest.TestCase):
                 times = {"twice": 2, "three times": 3}
                 product *= next((count for word, count in times.items() if where.endswith(word)), 1)
                 self.assertEqual(product, number(said))
-
-    def test_sums_are_those_of_the_tables_below(self) -> None:
-        failed = {row[0]: number(row[2]) for row in rows("## Out of memory, and devices that fail")}
-        self.assertIn("| {:,} | 0 |".format(failed.pop("allocations")), PAGE.split("## What is proved")[0])
-        self.assertIn("| {:,} | 0 |".format(sum(failed.values())), PAGE.split("## What is proved")[0])
-        whole = rows("### Planted bodies")[-1]
-        self.assertIn("%d; %d; %d" % tuple(number(cell) for cell in whole[1:]), PAGE)
 
     def test_runs_of_the_fuzz(self) -> None:
         runs = re.findall(r"tools/dev/fuzz --runs (\d+)", read("check"))

@@ -1,11 +1,13 @@
 """Audits a day's logs behind those of the days before: imports, audits and reports, for cron (docs/DAILY.md).
 
     ne day [--at-least N] .. FOLDER events [--from-empty] LOG ..
+    ne day [--ended LOG] [--skew MS] .. FOLDER events LOG ..
     ne day [--at-least N] .. FOLDER spicedb --schema SCHEMA (--base FILE --base-at TOKEN | --from-empty) LOG ..
     ne day [--at-least N] .. FOLDER trace TRACE
 
 FOLDER keeps the days: of each its report, and of the last what the next one goes on from. The words behind FOLDER are those of `ne import`,
-each day the same; a base state is taken on the first day alone. `trace` takes a trace in place of logs.
+each day the same; a base state is taken on the first day alone. `trace` takes a trace in place of logs. Where each LOG is a folder of a
+recorder's log, these are joined as far as all have closed files (docs/DAILY.md, "Several recorders").
 
 The status is 0 where nothing was found, 1 where something was, 6 where nothing was found and not everything was looked at, and 2 where
 something is refused; then no day was kept, and the same words can be tried again. It is 8 where nothing is new. A day that a killed run had
@@ -23,7 +25,7 @@ from argparse import Namespace
 from typing import Callable, NamedTuple, Optional
 
 from new_enemy_tools.commands import import_logs
-from new_enemy_tools.commands.running import Parser
+from new_enemy_tools.commands.running import Parser, add_skew
 from new_enemy_tools.commands.window import add_auditing, add_keeping, keep_of, places, refuse_usage
 from new_enemy_tools.coverage import Coverage
 from new_enemy_tools.files import write_whole
@@ -36,7 +38,7 @@ from new_enemy_tools.progress import Progress
 from new_enemy_tools.shown import tell as tell_line
 from new_enemy_tools.windowing.auditing import How
 from new_enemy_tools.windowing.carrying import version_of
-from new_enemy_tools.windowing.days import COMPARED, INDEX, MAIL, PAGE, Days, Summary, compared, digest_of
+from new_enemy_tools.windowing.days import COMPARED, INDEX, JOINED_LOG, MAIL, PAGE, Days, Summary, compared, digest_of
 from new_enemy_tools.windowing.effects import looked_at, texts_of
 from new_enemy_tools.windowing.faults import WindowFault
 from new_enemy_tools.windowing.following import Following
@@ -59,6 +61,9 @@ def given_of(words: list[str]) -> Namespace:
     parser.add_argument("--keep-days", type=int, default=KEEP_DAYS, metavar="N", help="keep the traces of so many days, compressed, for explain, "
                         "draw and report (%d)" % KEEP_DAYS)
     parser.add_argument("--html", action="store_true", help="write a page of the day, report.html in its folder, and index.html over all days")
+    parser.add_argument("--ended", action="append", default=[], metavar="LOG", help="of joined logs one whose recorder has ended for good, so "
+                        "that nothing waits for it")
+    add_skew(parser)
     add_auditing(parser)
     add_keeping(parser)
     parser.add_argument("folder", metavar="FOLDER", help="the folder of the days")
@@ -77,11 +82,38 @@ def given_of(words: list[str]) -> Namespace:
     if given.service == "trace" and len(given.words) != 1:
         parser.error("give one TRACE")
     given.logs = given.words if given.service == "trace" else import_logs.given_of([given.service, *given.words])[1].logs
+    given.joins = given.service == "events" and any(map(os.path.isdir, given.logs))
+    if given.joins and not all(map(os.path.isdir, given.logs)):
+        parser.error("give folders of recorders' logs, which are joined, or files, and not both")
+    for folder in given.ended:
+        if not given.joins or os.path.normpath(folder) not in map(os.path.normpath, given.logs):
+            parser.error("--ended %s names no LOG that is a folder" % folder)
+    if given.skew < 0:
+        parser.error("--skew is below 0")
+    if given.skew != parser.get_default("skew") and not given.joins:
+        parser.error("--skew before FOLDER is of logs that are joined; give their folders")
+    if len(set(map(os.path.realpath, given.logs))) < len(given.logs) and given.joins:
+        parser.error("one LOG stands twice")
+    given.names, given.held_back, given.said = [os.path.basename(os.path.normpath(log)) for log in given.logs], 0, []
     return given
+
+
+def take_joined(days: Days, given: Namespace) -> None:
+    """Puts the day's part of the joined log in the place of the folders."""
+    # Days of one log need not wait until this is loaded.
+    from new_enemy_tools.commands.day_joined import joined
+    os.mkdir(days.work())
+    found = joined(days, list(map(os.path.normpath, given.logs)), set(map(os.path.normpath, given.ended)), given.skew * 1_000_000)
+    given.words = [word for word in given.words if word not in given.logs] + ([] if found.path is None else [found.path])
+    given.logs = [] if found.path is None else [found.path]
+    given.held_back, given.said = found.waiting, found.said
 
 
 def leave_out(days: Days, given: Namespace) -> None:
     """Of the files of tools/record, leaves out those of the days before, and the last where it is still written."""
+    if given.joins:
+        take_joined(days, given)
+        return
     if given.service != "events":
         return
     heads = {log: head_of(log) for log in given.logs}
@@ -167,7 +199,7 @@ def audited_day(days: Days, given: Namespace, before: import_logs.Before, progre
 
 def made(days: Days, given: Namespace, digest: str, progress: Progress) -> int:
     """Makes the next day; its number."""
-    os.mkdir(days.work())
+    os.makedirs(days.work(), exist_ok=True)
     # Rows make no circles, and there may be many of them to look through.
     gc.disable()
     before = go_on(days, given)
@@ -181,19 +213,20 @@ def made(days: Days, given: Namespace, digest: str, progress: Progress) -> int:
     write_next(days.work("state"), found.window, found.carry)
     ids = before.ids if given.service != "trace" else None
     looked = looked_at(found, own)
-    write_reports(days, found, own, ids, looked)
+    write_reports(days, found, own, ids, looked, given.said)
     if given.html:
         # Days without pages need not wait until this is loaded.
         from new_enemy_tools.windowing.pages import write_day
         write_day(found, own, ids, 1 + (days.last or 0), days.work(PAGE))
     told = found.told
     write_whole(days.work("summary.json"), [json.dumps(Summary(
-        [os.path.basename(log) for log in given.logs], digest, told.status(given.allow_unaudited), told.entries, len(told.findings),
-        sum(told.coverage.not_audited.values()), told.held, told.verdict, told.coverage.row(), looked._asdict())._asdict())])
+        given.names, digest, told.status(given.allow_unaudited), told.entries, len(told.findings),
+        sum(told.coverage.not_audited.values()), told.held, told.verdict, told.coverage.row(), looked._asdict(), given.held_back)._asdict())])
     if given.keep_days:
         keep_trace(days.work(), found, own)
     if os.path.exists(days.work("trace")):
         os.remove(days.work("trace"))
+    shutil.rmtree(days.work(JOINED_LOG), ignore_errors=True)
     number = days.keep()
     days.tidy(given.keep_days)
     if given.html:
@@ -202,13 +235,14 @@ def made(days: Days, given: Namespace, digest: str, progress: Progress) -> int:
     return number
 
 
-def write_reports(days: Days, found: Audited, own: Own, ids: Optional[Ids], looked: Looked) -> None:
-    """The report as text, and with effects as rows of JSON; and what is written out, with what the days before say of their checks."""
+def write_reports(days: Days, found: Audited, own: Own, ids: Optional[Ids], looked: Looked, said: list[str]) -> None:
+    """The report as text, and with effects as rows of JSON; and what is written out, with what the days before say of their checks. `said` is
+    what is told of what waits."""
     texts, where = texts_of(found, own, ids), places(found, own).__getitem__
-    write_whole(days.work("report.txt"), found.told.lines(where))
+    write_whole(days.work("report.txt"), found.told.lines(where, beside=said))
     write_whole(days.work("report.jsonl"), texts.rows)
     before = [(number, days.summary(number).looked) for number in days.numbers[:-COMPARED - 1:-1]]
-    write_whole(days.work(MAIL), found.told.lines(where, texts.groups, compared(looked, before)))
+    write_whole(days.work(MAIL), found.told.lines(where, texts.groups, [*said, *compared(looked, before)]))
 
 
 def cannot_show(said: list[str], is_first: bool) -> list[str]:
@@ -237,6 +271,13 @@ def tell(days: Days, number: int) -> int:
 def run(days: Days, given: Namespace, progress: Progress) -> int:
     # What a run left that was killed.
     days.end()
+    try:
+        return taken(days, given, progress)
+    finally:
+        days.end()
+
+
+def taken(days: Days, given: Namespace, progress: Progress) -> int:
     days.tidy(given.keep_days)
     leave_out(days, given)
     digest, last, status = digest_of(given.logs), days.last, 0
@@ -246,14 +287,11 @@ def run(days: Days, given: Namespace, progress: Progress) -> int:
         if days.summary(last).digest == digest or not given.logs:
             return status
     if not given.logs:
-        raise NothingNew("no file of the log is new and complete")
+        raise NothingNew("; ".join(["no file of the log is new and complete" if not given.joins else "nothing is new that all logs have", *given.said]))
     twice = days.day_of(digest)
     if twice is not None:
         raise NothingNew("these logs were audited before, as day %d" % twice)
-    try:
-        number = made(days, given, digest, progress)
-    finally:
-        days.end()
+    number = made(days, given, digest, progress)
     progress.end()
     return min(status, tell(days, number), key=STATUSES.index)
 

@@ -1,18 +1,20 @@
 """Joins the logs of several recorders of one service into one: ne join --out FOLDER LOG ..
 
 Each LOG is the folder of a recorder's log, with all its files; or, beside a log of `ne record --changes-only`, a file of events of an
-application. FOLDER is new, and has a log that `ne import events` reads as that of one
+application, a file of OpenFGA's own log, or a folder of taps of Envoy. FOLDER is new, and has a log that `ne import events` reads as that of one
 recorder (docs/RECORDING.md). Where anything is refused nothing is written, and the status is 2.
 """
 import json
 import os
 import shutil
+import sys
 from argparse import Namespace
 from functools import partial
-from typing import Iterator
+from typing import Iterable, Iterator
 
-from new_enemy_tools.commands.running import Parser
+from new_enemy_tools.commands.running import Parser, add_skew
 from new_enemy_tools.faults import DeviceFault
+from new_enemy_tools.importing import located
 from new_enemy_tools.importing.chained import end_of, in_chain
 from new_enemy_tools.importing.events import read_events
 from new_enemy_tools.importing.opened import opened
@@ -20,7 +22,10 @@ from new_enemy_tools.importing.refusals import Refusals
 from new_enemy_tools.recording.joining import Join
 from new_enemy_tools.recording.lines import ENCODE
 from new_enemy_tools.recording.log_files import NAME, LogFault, LogFiles
-from new_enemy_tools.recording.sketches import JOINED, Given, JoinFault, Row
+from new_enemy_tools.recording.overheard import overheard
+from new_enemy_tools.recording.own_events import Own, own_of
+from new_enemy_tools.recording.sketches import JOINED, Given, JoinFault, Row, Value
+from new_enemy_tools.shown import tell
 
 # So many lines are written at once.
 LINES = 1000
@@ -31,14 +36,16 @@ MOST = 1 << 62
 def given_of(words: list[str]) -> Namespace:
     parser = Parser(prog="ne join", description=__doc__)
     parser.add_argument("--out", required=True, metavar="FOLDER", help="the folder of the joined log, which is made")
-    parser.add_argument("--skew", type=int, default=1000, metavar="MS", help="by how many milliseconds the clocks of the recorders' machines may "
-                        "be apart (1000)")
-    parser.add_argument("--stale-by", type=float, default=0.0, metavar="SECONDS", help="how long OpenFGA may answer from its cache, for events of "
-                        "applications (0)")
-    parser.add_argument("logs", nargs="+", metavar="LOG", help="the folder of a recorder's log, or a file of an application's events")
+    add_skew(parser)
+    parser.add_argument("--stale-by", type=float, default=0.0, metavar="SECONDS", help="how long OpenFGA may answer from its cache, for checks "
+                        "that passed no recorder (0)")
+    parser.add_argument("--took", type=float, default=3.0, metavar="SECONDS", help="how long before its line a request of OpenFGA's own log may have "
+                        "begun: the service's request timeout (3)")
+    parser.add_argument("logs", nargs="+", metavar="LOG", help="the folder of a recorder's log; or a file of an application's events, of "
+                        "OpenFGA's own log, or a folder of Envoy's taps")
     given = parser.parse_args(words)
-    if given.skew < 0 or given.stale_by < 0:
-        parser.error("--skew or --stale-by is below 0")
+    if min(given.skew, given.stale_by, given.took) < 0:
+        parser.error("--skew, --stale-by or --took is below 0")
     if len(set(map(os.path.realpath, given.logs))) < len(given.logs):
         parser.error("one LOG stands twice")
     return given
@@ -52,11 +59,20 @@ class Refused(JoinFault):
         self.details = refusals.lines()
 
 
+def names_of(folder: str) -> list[str]:
+    return sorted(name for name in os.listdir(folder) if NAME.fullmatch(name))
+
+
 def log_of(folder: str) -> Given:
     """A recorder's log, whose files are a chain and whose lines can all be read; raises JoinFault."""
-    names = sorted(name for name in os.listdir(folder) if NAME.fullmatch(name))
+    names = names_of(folder)
     if not names:
         raise JoinFault("%s has no files of a log; give the folder of a recorder's log" % folder)
+    return read_log(folder, names)
+
+
+def read_log(folder: str, names: list[str], is_base: bool = False) -> Given:
+    """A log of some files, or of its base state alone; raises JoinFault."""
     refusals = Refusals(True)
     paths = in_chain([os.path.join(folder, name) for name in names], refusals)
     if paths is None:
@@ -65,12 +81,52 @@ def log_of(folder: str) -> Given:
         raise Refused(folder, refusals)
     # What is still written grows meanwhile.
     sizes = [(path, os.path.getsize(path) if path == paths[-1] and path.endswith(".jsonl") else MOST) for path in paths]
-    for row in rows_of(sizes):
+    rows = partial(base_of, sizes) if is_base else partial(rows_of, sizes)
+    for row in rows():
         for _ in read_events([(row.line, row.value)], row.file, refusals):
             pass
     if refusals.refused:
         raise Refused(folder, refusals)
-    return Given(folder, partial(rows_of, sizes), end_of(paths[-1]).said is not None)
+    return Given(folder, rows, is_base or end_of(paths[-1]).said is not None)
+
+
+def base_of(sizes: list[tuple[str, int]]) -> Iterator[Row]:
+    """The lines of files up to the end of the base state."""
+    for row in rows_of(sizes):
+        yield row
+        if row.value["event"] == "place":
+            return
+
+
+def own_in(path: str, took: int) -> Own:
+    """What a file of an application's events, OpenFGA's log or a folder of taps says; raises JoinFault."""
+    paths = [os.path.join(path, name) for name in taps_in(path)] if os.path.isdir(path) else [path]
+    if not os.path.isdir(path) and _first_of(path).get("event") is not None:
+        return own_of(Given(path, partial(rows_of, [(path, os.path.getsize(path))]), True))
+    refusals = Refusals(True)
+    found = overheard(path, (row for one in paths for row in values_of(one, refusals)), took)
+    if refusals.refused:
+        raise Refused(path, refusals)
+    return found
+
+
+def taps_in(folder: str) -> list[str]:
+    """The names of what may be taps, where no file of the folder is of a recorder's log."""
+    return [] if names_of(folder) else sorted(name for name in os.listdir(folder) if name.endswith(".json"))
+
+
+def _first_of(path: str) -> Value:
+    """The first value of a file, where that is an object."""
+    for _, value in located.values(path, Refusals(True)):
+        return value if isinstance(value, dict) else {}
+    return {}
+
+
+def values_of(path: str, refusals: Refusals) -> Iterator[Row]:
+    for line, value in located.values(path, refusals):
+        if not isinstance(value, dict):
+            raise JoinFault("%s:%d: no object of JSON" % (path, line))
+        yield Row(path, line, value)
 
 
 def rows_of(sizes: list[tuple[str, int]]) -> Iterator[Row]:
@@ -89,15 +145,13 @@ def rows_of(sizes: list[tuple[str, int]]) -> Iterator[Row]:
                 yield Row(path, line, value)
 
 
-def write(join: Join, folder: str) -> int:
-    """Writes the joined log whole or not at all; how many lines it has."""
-    part = folder.rstrip("/") + ".part"
-    shutil.rmtree(part, ignore_errors=True)
-    files, count = LogFiles(part, JOINED + join.service, age=float("inf")), 0
+def write(lines: Iterable[Value], files: LogFiles, folder: str) -> int:
+    """Writes lines as a log; how many there are. Raises DeviceFault."""
+    count = 0
     try:
         files.lock()
         waiting: list[bytes] = []
-        for value in join.lines():
+        for value in lines:
             waiting.append(ENCODE(value).encode() + b"\n")
             count += 1
             if len(waiting) == LINES:
@@ -105,10 +159,19 @@ def write(join: Join, folder: str) -> int:
                 waiting.clear()
         files.add(b"".join(waiting))
         files.close()
-        os.remove(os.path.join(part, "lock"))
-        os.rename(part, folder)
+        os.remove(os.path.join(files.folder, "lock"))
     except LogFault as fault:
         raise DeviceFault("cannot write %s: %s" % (folder, fault)) from None
+    return count
+
+
+def write_whole(join: Join, folder: str) -> int:
+    """Writes the joined log whole or not at all; how many lines it has."""
+    part = folder.rstrip("/") + ".part"
+    shutil.rmtree(part, ignore_errors=True)
+    try:
+        count = write(join.lines(), LogFiles(part, JOINED + join.service, age=float("inf")), folder)
+        os.rename(part, folder)
     finally:
         shutil.rmtree(part, ignore_errors=True)
     return count
@@ -119,11 +182,14 @@ def main(words: list[str]) -> int:
     if os.path.exists(given.out):
         raise JoinFault("%s is there already; give the name of a folder that is not" % given.out)
     try:
-        folders = [one for one in given.logs if os.path.isdir(one)]
-        own = [Given(one, partial(rows_of, [(one, os.path.getsize(one))]), True) for one in given.logs if one not in folders]
+        folders = [one for one in given.logs if os.path.isdir(one) and not taps_in(one)]
+        own = [own_in(one, int(given.took * 1e9)) for one in given.logs if one not in folders]
         join = Join([log_of(folder) for folder in folders], given.skew * 1_000_000, own, int(given.stale_by * 1e9))
-        count = write(join, given.out)
+        count = write_whole(join, given.out)
     except OSError as fault:
         raise DeviceFault("cannot use %s: %s" % (fault.filename, fault.strerror)) from None
+    for one in join.own:
+        for reason, passed in sorted(one.passed.items()):
+            tell("passed over %d in %s: %s" % (passed, one.name, reason), sys.stdout)
     print("joined %d logs of %s: %d changes, %d lines" % (len(given.logs), join.service, join.way.spine.count, count))
     return 0

@@ -40,6 +40,11 @@ def add_allowing(parser: argparse.ArgumentParser) -> None:
                         "percent of the checks, and of the time in gaps, were not looked at whole (0)")
 
 
+def add_skew(parser: argparse.ArgumentParser) -> None:
+    parser.add_argument("--skew", type=int, default=1000, metavar="MS", help="by how many milliseconds the clocks of the machines of joined logs may "
+                        "be apart (1000)")
+
+
 def say(fault: ToolFault, stream: TextIO) -> None:
     """The fault's line, and what else is to be said of it."""
     tell(str(fault), stream)

@@ -80,8 +80,12 @@ class States:
     def count(self, low: int, high: int) -> int:
         return bisect_right(self.revisions, high) - bisect_left(self.revisions, low)
 
-    def chosen(self, asked: Asked, place: int) -> list[int]:
-        """The revision for a check that stands behind so many commits, or those of all states. At most STATES, each evaluated once."""
+    def chosen(self, asked: Asked, place: int, may_go_on: bool = False) -> list[int]:
+        """The revision for a check that stands behind so many commits, or those of all states. At most STATES, each evaluated once.
+
+        None where the log may go on, some state is behind it, and at none that is known the check is right and without a finding.
+        """
+        is_open = may_go_on and (not self.revisions or self.revisions[-1] < asked.highest)
         between = self.revisions[bisect_left(self.revisions, asked.lowest):bisect_right(self.revisions, asked.highest)]
         latest_first = sorted({asked.lowest, asked.highest, *between}, reverse=True)
         listed = sorted(latest_first, key=lambda at: self._findings(asked, at, place))
@@ -90,8 +94,12 @@ class States:
             listed.sort(key=lambda at: (asked.token not in (None, at), at))
         for at in listed:
             if Settled(self.rules, self.store, asked.goal, at).holds() == asked.reply:
+                if is_open and self._findings(asked, at, place):
+                    break
                 self.right += 1
                 return [at]
+        if is_open:
+            return []
         self.wrong += 1
         self.entries += len(listed)
         return listed

@@ -390,10 +390,14 @@ class Core:
         if count >= STATES:
             self.refusals.unmapped_check(entry, causes.TOO_WIDE, "%d commits, and %d states at most are looked at" % (count, STATES))
             return
-        self.counts.take_entry(entry, entry.token is not None or entry.newest)
         goal = Tuple(self.writer.named_set(*entry.goal[:3]), self.ids.number("user", *entry.goal[3:5]))
         asked = Asked(entry.kind, goal, entry.reply, entry.lowest, entry.snapshot, entry.token, entry.newest)
-        first, *others = self.taken.states.chosen(asked, place)
+        chosen = self.taken.states.chosen(asked, place, self.goes_on is not None)
+        if not chosen:
+            self.refusals.unmapped_check(entry, causes.STATE_TO_COME)
+            return
+        self.counts.take_entry(entry, entry.token is not None or entry.newest)
+        first, *others = chosen
         has_token = entry.newest and entry.token is None and (entry.kind == "check" or entry.reply)
         token = first if has_token else self.taken.demanded(entry.goal, entry.version, first, entry.token)
         made = [entry._replace(snapshot=first, token=token)]

@@ -105,8 +105,8 @@ class Side(NamedTuple):
 def side_of(parser: Parser, given: Namespace) -> Side:
     if given.tls_key is not None and given.tls_cert is None:
         parser.error("--tls-key goes with --tls-cert")
-    if given.grpc and (given.tls_cert or given.service_ca or given.share_port):
-        parser.error("--tls-cert, --service-ca and --share-port do not go with --grpc")
+    if given.grpc and given.share_port:
+        parser.error("--share-port does not go with --grpc")
     certificate = None if given.tls_cert is None else Certificate(given.tls_cert, given.tls_key)
     metrics = None if given.metrics is None else address_of(parser, given.metrics, "--metrics")
     address = ("", 0) if given.changes_only else address_of(parser, given.listen, "--listen")
@@ -137,7 +137,7 @@ def relay_of(settings: Settings, url: SplitResult, teller: Teller) -> Any:
         return NoRelay()
     if settings.grpc:
         from new_enemy_tools.recording.grpc_relay import GrpcRelay
-        return GrpcRelay(url, teller)
+        return GrpcRelay(url, teller, settings.ca)
     return Relay(url, teller, CALLS[settings.service], (files_raised() - FILES) // 2, settings.ca)
 
 
@@ -237,7 +237,7 @@ class Proxy:
         if self.settings.only:
             pass
         elif self.settings.grpc:
-            await self.relay.serve(*self.side.address)
+            await self.relay.serve(*self.side.address, certificate)
         else:
             await self.relay.serve(*self.side.address, None if certificate is None else certificate.context, self.side.is_shared)
         if self.side.metrics is not None:
@@ -269,7 +269,7 @@ def service_of(settings: Settings) -> tuple[Service, Feed]:
         return made, OpenFgaFeed(settings)
     if settings.grpc:
         from new_enemy_tools.recording.spicedb_grpc import GrpcSource
-        return spicedb.SpiceDb(), spicedb.Feed(GrpcSource(settings.url, settings.key))
+        return spicedb.SpiceDb(), spicedb.Feed(GrpcSource(settings.url, settings.key, settings.ca))
     return spicedb.SpiceDb(), spicedb.Feed(HttpSource(settings.url, settings.key, settings.ca))
 
 

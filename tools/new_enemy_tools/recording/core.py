@@ -290,7 +290,7 @@ class Core:
     def put_entries(self, message: Ended, answers: list[Answer], place: int, **values: Any) -> None:
         """The entries of a call, which has all that it needs."""
         self._let_go(message.number)
-        _refuse_headers(message, answers)
+        refuse_headers(message, answers)
         made = b"".join(_entry(message, answer, values) for answer in answers)
         if made:
             self.sequencer.put_entry(place, message.at, made, message.number)
@@ -379,7 +379,7 @@ def place_line(place: Place) -> bytes:
     return line("place", **place.keys)
 
 
-def _refuse_headers(message: Ended, answers: list[Answer]) -> None:
+def refuse_headers(message: Ended, answers: list[Answer]) -> None:
     """Raises Bad where what the application says with a call can't be used."""
     if message.strange is not None:
         raise Bad(message.strange)

@@ -10,6 +10,7 @@ from urllib.parse import SplitResult
 from new_enemy_tools.recording.grpc_calls import CALLS, GRPC, Call, joined
 from new_enemy_tools.recording.http_reading import BODY
 from new_enemy_tools.recording.messages import CHECKS, Ended, Started, Teller
+from new_enemy_tools.recording.secured import Certificate, roots_in
 
 try:
     import grpc  # type: ignore[import]
@@ -24,6 +25,20 @@ LAST = 3.0
 LABELS = ("x-content-save", "x-content-version", "x-content-token")
 # What gRPC itself says of a connection, and says anew on the next.
 OWN = ("grpc-", "user-agent", "content-type", "te", "accept-encoding")
+
+
+def channel_of(library: Any, url: SplitResult, ca: Optional[str]) -> Any:
+    """A channel to the service, by the one or the other of gRPC's two libraries."""
+    if url.scheme == "https":
+        return library.secure_channel("%s:%d" % (url.hostname, url.port or 443), grpc.ssl_channel_credentials(roots_in(ca)), OPTIONS)
+    return library.insecure_channel("%s:%d" % (url.hostname, url.port or 50051), OPTIONS)
+
+
+def shown_by(certificate: Certificate) -> Any:
+    """What each new connection is shown: the certificate as it was read last."""
+    def newest() -> Any:
+        return grpc.ssl_server_certificate_configuration([certificate.pair])
+    return grpc.dynamic_ssl_server_credentials(newest(), newest)
 
 
 class Kept:
@@ -74,21 +89,19 @@ class Handler(grpc.GenericRpcHandler):  # type: ignore[misc]
 
 
 class GrpcRelay:
-    def __init__(self, url: SplitResult, teller: Teller):
-        self.url, self.teller = url, teller
+    def __init__(self, url: SplitResult, teller: Teller, ca: Optional[str] = None):
+        self.url, self.teller, self.ca = url, teller, ca
         self.under_way = self.refused = 0
         self.server: Any = None
         self.channel: Any = None
         self.stopping: Optional[asyncio.Future[Any]] = None
 
-    async def serve(self, host: str, port: int) -> None:
-        secure = self.url.scheme == "https"
-        target = "%s:%d" % (self.url.hostname, self.url.port or (443 if secure else 50051))
-        self.channel = grpc.aio.secure_channel(target, grpc.ssl_channel_credentials(), OPTIONS) if secure else \
-            grpc.aio.insecure_channel(target, OPTIONS)
+    async def serve(self, host: str, port: int, certificate: Optional[Certificate]) -> None:
+        self.channel = channel_of(grpc.aio, self.url, self.ca)
         self.server = grpc.aio.server(handlers=(Handler(self),), options=[*OPTIONS, ("grpc.so_reuseport", 0)])
+        address = "%s:%d" % ("[%s]" % host if ":" in host else host, port)
         try:
-            found = self.server.add_insecure_port("%s:%d" % ("[%s]" % host if ":" in host else host, port))
+            found = self.server.add_insecure_port(address) if certificate is None else self.server.add_secure_port(address, shown_by(certificate))
         except RuntimeError:
             found = 0
         if not found:

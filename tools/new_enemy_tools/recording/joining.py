@@ -12,8 +12,9 @@ from new_enemy_tools.importing.service import ServiceRules
 from new_enemy_tools.importing.times import nanoseconds
 from new_enemy_tools.recording.bearing import Bearing
 from new_enemy_tools.recording.lines import time_text
-from new_enemy_tools.recording.own_events import NEVER, Own, issued_by, lines_of, open_gap, own_of, refuse_other_store, timed_of
-from new_enemy_tools.recording.sketches import Change, Given, JoinFault, Sketch, Value, Version, refuse_unlike, version_of
+from new_enemy_tools.recording.own_events import NEVER, Own, issued_by, lines_of, open_gap, refuse_other_store, timed_of
+from new_enemy_tools.recording.overheard import of_store
+from new_enemy_tools.recording.sketches import Change, Given, JoinFault, Sketch, Value, Version, last_of, refuse_unlike, version_of
 from new_enemy_tools.recording.spine import Numbered, Spine, Track
 
 # Which came first of changes that bear on a check, one recorder has in another way than another.
@@ -25,12 +26,14 @@ WAITED = 31 * 10 ** 9
 
 
 class Placed(NamedTuple):
-    """A line with its place among the changes; those of one place stand by the numbers of their logs, and in their order there."""
+    """A line with its place among the changes; those of one place stand by the numbers of their logs, and in their order there. `come` is the
+    place to which its log had come."""
 
     place: int
     log: int
     number: int
     value: Value
+    come: int
 
 
 class Moved(NamedTuple):
@@ -44,7 +47,7 @@ class OfNumbers:
     """Of SpiceDB: a revision is the same in all logs."""
 
     def __init__(self, sketches: list[Sketch]):
-        self.spine = Numbered(sketches)
+        self.spine, self.sketches = Numbered(sketches), sketches
 
     def place(self, log: int, revision: int) -> int:
         return bisect_right(self.spine.numbers, revision)
@@ -52,13 +55,28 @@ class OfNumbers:
     def moved(self, log: int, revision: int, value: Value) -> Moved:
         return Moved(self.place(log, revision), value)
 
+    def passed(self, log: int) -> int:
+        """The place up to which a log has all changes."""
+        return self.place(log, last_of(self.sketches[log]))
+
+    def is_known(self, log: int, value: Value) -> bool:
+        """Whether a log has come to all states that its check names."""
+        return True
+
+    def reach(self, value: Value) -> int:
+        """The last place that a check of the joined log names."""
+        return 0
+
 
 class OfPlaces:
     """Of OpenFGA: a revision is a place in the recorder's own order of the changes."""
 
-    def __init__(self, sketches: list[Sketch]):
+    def __init__(self, sketches: list[Sketch], known: int = 0, place: int = 0):
+        """Of the first so many logs the order of the changes up to a place is known already, and stays."""
         self.spine, self.sketches = Spine(sketches[0]), sketches
-        for one in sketches[1:]:
+        for number, one in enumerate(sketches[1:], 1):
+            if number == known:
+                self.spine.fix(place)
             self.spine.add(one)
         self.tracks: list[Track] = self.spine.end()
         self.bearing = _bearing(sketches)
@@ -97,8 +115,24 @@ class OfPlaces:
             made["token"] = self.spine.number(whole)
         return Moved(max(place, last if not is_content else 0), made)
 
+    def passed(self, log: int) -> int:
+        return self.tracks[log].solid[-1]
+
+    def is_known(self, log: int, value: Value) -> bool:
+        return _highest(value) <= last_of(self.sketches[log])
+
+    def reach(self, value: Value) -> int:
+        return _highest(value) - self.spine.base
+
     def _bears(self, change: Change, goal: Relationship) -> bool:
         return not change.tuples or any(self.bearing.bears(one, goal) for one in change.tuples)
+
+
+def _highest(value: Value) -> int:
+    """The highest revision that a check names."""
+    named: list[int] = [one for key in ("snapshot", "token") if (one := value.get(key)) is not None]
+    named += [value[key][1] for key in ("newest_between", "snapshot_between") if value.get(key) is not None]
+    return max(named)
 
 
 def _bearing(sketches: list[Sketch]) -> Bearing:
@@ -117,27 +151,33 @@ def _bearing(sketches: list[Sketch]) -> Bearing:
     return found
 
 
-def _by_beginning(sketches: list[Sketch]) -> list[Sketch]:
+def beginning_of(sketch: Sketch) -> int:
+    """Behind how many changes a log begins, or at which revision."""
+    return sketch.revision if sketch.count is None else sketch.count
+
+
+def by_beginning(sketches: list[Sketch]) -> list[Sketch]:
     """Logs in the order in which they begin. Of two that begin behind as many changes that is later whose model another log has as a
-    change."""
+    change; where none has it so far, whose model has the later id, a ULID."""
     came = {change.value.get("model") for sketch in sketches for step in sketch.steps for change in step if change.is_rules}
-    return sorted(sketches, key=lambda one: (one.revision if one.count is None else one.count, (one.rules or {}).get("model") in came))
+    models = [(one, (one.rules or {}).get("model")) for one in sketches]
+    return [one for one, _ in sorted(models, key=lambda given: (beginning_of(given[0]), given[1] in came, given[1] or ""))]
 
 
 class Join:
     """Goes twice through logs: once for their changes, and once for all lines. `skew` is by how many nanoseconds the clocks of the
     machines may be apart, and `stale` how old the answers may be that applications tell of and that did not ask for the newest state."""
 
-    def __init__(self, given: list[Given], skew: int, own: Sequence[Given] = (), stale: int = 0):
+    def __init__(self, given: list[Given], skew: int, own: Sequence[Own] = (), stale: int = 0):
         self.skew = skew
         if not given:
             raise JoinFault("events of an application need a log of the changes: that of `ne record --changes-only`")
         sketches = [Sketch(one) for one in given]
         refuse_unlike(sketches)
         self.service, store = sketches[0].service, sketches[0].store
-        self.sketches = _by_beginning(sketches)
-        self.way: Union[OfNumbers, OfPlaces] = OfNumbers(self.sketches) if store is None else OfPlaces(self.sketches)
-        self.own = list(map(own_of, own))
+        self.sketches = self._in_order(sketches)
+        self.way: Union[OfNumbers, OfPlaces] = OfNumbers(self.sketches) if store is None else self._places()
+        self.own = [of_store(one, store) if one.store is None else one for one in own]
         refuse_other_store(self.own, store)
         self.timed = timed_of(self.sketches, skew, stale, self.way.bearing) if self.own and isinstance(self.way, OfPlaces) else None
         self.issued: set[Version] = set().union(*(one.issued for one in self.sketches), *map(issued_by, self.own))
@@ -150,7 +190,16 @@ class Join:
         self.untils += [one.until - skew for one in self.own]
         self.done: set[Version] = set()
         self.told: set[Version] = set()
-        self.held: dict[Version, list[Value]] = {}
+        self.held: dict[Version, list[Placed]] = {}
+
+    def _in_order(self, sketches: list[Sketch]) -> list[Sketch]:
+        return by_beginning(sketches)
+
+    def _places(self) -> OfPlaces:
+        return OfPlaces(self.sketches)
+
+    def _moved(self, log: int, revision: int, value: Value) -> Moved:
+        return self.way.moved(log, revision, value)
 
     def lines(self) -> Iterator[Value]:
         """The joined log without its head and its end."""
@@ -168,7 +217,7 @@ class Join:
         for place in range(at + 1, self.way.spine.count + 1):
             yield from self.way.spine.lines(place)
         for listed in self.held.values():
-            yield from listed
+            yield from (one.value for one in listed)
         yield from self._open()
 
     def _placed(self, log: int) -> Iterator[Placed]:
@@ -176,38 +225,39 @@ class Join:
         sketch, is_base = self.sketches[log], True
         revision = sketch.revision
         for number, row in enumerate(sketch.given.rows()):
-            value, event = row.value, row.value["event"]
+            value, event, come = row.value, row.value["event"], self.way.place(log, revision)
             if event in ("rules", "write", "feed", "log", "place", "closed") or event == "unmapped" and value.get("userset"):
                 is_part = event in ("rules", "write", "unmapped") and is_base
                 if is_part and log == 0:
-                    yield Placed(0, log, number, value)
+                    yield Placed(0, log, number, value, 0)
                 if event == "place":
                     is_base = False
                 if event in ("rules", "write") and not is_base:
                     revision = value["revision"]
             elif event in ("check", "content"):
-                moved = self.way.moved(log, revision, value)
+                moved = self._moved(log, revision, value)
                 told = {"file": row.file, "line": row.line, "clock": sketch.given.name}
-                yield Placed(moved.place, log, number, {**(_lost(value) if moved.value is None else moved.value), **told})
+                yield Placed(moved.place, log, number, {**(lost(value) if moved.value is None else moved.value), **told}, come)
             elif event == "read" or event == "gap" and (value.get("from") is None or sketch.timed[1] and not value.get("lost")):
                 # Nothing was asked through a recorder of the changes alone.
                 continue
             else:
-                yield Placed(self.way.place(log, revision), log, number, self._earlier(value) if event == "gap" else value)
+                yield Placed(come, log, number, self._earlier(value) if event == "gap" else value, come)
 
     def _said(self, number: int, own: Own) -> Iterator[Placed]:
         """What an application says, in the order of the places."""
         assert self.timed is not None and isinstance(self.way, OfPlaces)
         log, timed = self.timed
-        told, found = {"file": own.name, "clock": own.name}, []
+        found = []
         for line, (row, said) in enumerate(lines_of(own, timed)):
             value, place = said.value, self.way.place(log, said.revision)
             if value["event"] in ("check", "content"):
                 moved = self.way.moved(log, said.revision, value)
-                value, place = _lost(value) if moved.value is None else moved.value, moved.place
+                value, place = lost(value) if moved.value is None else moved.value, moved.place
             elif value["event"] == "gap":
                 value = self._earlier(value)
-            found.append(Placed(place, number, line, value if value["event"] == "gap" else {**value, **told, "line": row.line}))
+            found.append(Placed(place, number, line, value if value["event"] == "gap" else {
+                **value, "file": row.file, "line": row.line, "clock": own.name}, place))
         return iter(found)
 
     def _earlier(self, value: Value) -> Value:
@@ -221,7 +271,7 @@ class Join:
         if version is None or value["event"] == "gap":
             yield value
         elif value["event"] == "check" and version in self.issued and version not in self.done:
-            self.held.setdefault(version, []).append(value)
+            self.held.setdefault(version, []).append(placed)
         else:
             if value["event"] == "check" and version not in self.issued and version not in self.told and self._may_be_saved(placed):
                 self.told.add(version)
@@ -229,7 +279,7 @@ class Join:
             yield value
             if value["event"] != "check":
                 self.done.add(version)
-                yield from self.held.pop(version, ())
+                yield from (one.value for one in self.held.pop(version, ()))
 
     def _may_be_saved(self, placed: Placed) -> bool:
         """Whether a version may have been saved through a recorder whose log ends before it is shown."""
@@ -237,19 +287,23 @@ class Join:
         return at is None or any(log != placed.log and until < at for log, until in enumerate(self.untils))
 
     def _open(self) -> Iterator[Value]:
-        end = max(one.until for one in self.sketches)
+        end = max(max(one.until, one.timed[1]) for one in self.sketches)
         for own in self.own:
             gap = open_gap(own, end, self.skew)
             if gap is not None:
                 yield gap
         for one in self.sketches:
             if not one.given.is_closed and not one.timed[1]:
-                yield {"event": "gap", "from": time_text(max(0, one.until - self.skew - WAITED)), "to": time_text(end),
-                       "reason": OPEN % one.given.name, "time": time_text(end)}
+                yield self._open_gap(one, end)
+
+    def _open_gap(self, one: Sketch, end: int) -> Value:
+        """What a log does not have that was not closed."""
+        return {"event": "gap", "from": time_text(max(0, one.until - self.skew - WAITED)), "to": time_text(end),
+                "reason": OPEN % one.given.name, "time": time_text(end)}
 
 
-def _lost(value: Value) -> Value:
+def lost(value: Value, reason: str = UNORDERED) -> Value:
     """The line of a check whose place can't be said."""
     goal, version = Relationship(*value["goal"]), version_of(value)
     saved = {"version": list(version)} if version is not None and value["event"] == "content" else {}
-    return {"event": "unmapped", "reason": UNORDERED, "detail": str(goal), **saved}
+    return {"event": "unmapped", "reason": reason, "detail": str(goal), **saved}

@@ -151,8 +151,15 @@ class OpenFga:
 
     def moved(self, core: Core) -> None:
         """Places what was read before all that the proxy told has come."""
-        while self.unplaced and self.unplaced[0].received <= core.sequencer.told_until:
+        until = core.sequencer.told_until
+        while self.unplaced and self.unplaced[0].received <= until and not self._may_be_one(self.unplaced[0], until):
             self._take_changes(self.unplaced.popleft(), core)
+
+    def _may_be_one(self, message: Changes, until: int) -> bool:
+        """Whether changes that stand side by side with one time may be of a write that has no answer yet, and then are one commit."""
+        changes = message.read.changes
+        return any(one.follows and one.time == before.time for before, one in zip(changes, changes[1:])) and any(
+            until - OPEN < asked < message.received for asked in self.open.values())
 
     def _take_base(self, base: Base, core: Core) -> None:
         """The base state, which is what all changes so far left; or the changes since an earlier log."""

@@ -3,6 +3,7 @@
 An application knows when a check was asked and answered, by its clock; the log of the changes says from when to when each may have come.
 A check saw what had surely come when it was asked, and nothing that came when it had its answer.
 """
+from collections import Counter
 from functools import partial
 from typing import Any, Iterator, NamedTuple, Optional, Union
 
@@ -29,13 +30,15 @@ NEVER = 1 << 62
 
 
 class Own(NamedTuple):
-    """What a process of an application says: its store, until when, and its checks with where they stand; `is_over` where it ended."""
+    """What a process of an application says: its store, until when, and its checks with where they stand; `is_over` where it ended. Of what was
+    overheard (overheard.py) each line says its store, and of some it is counted why they are passed over."""
 
     name: str
-    store: str
+    store: Optional[str]
     until: int
     rows: list[Row]
     is_over: bool
+    passed: Counter[str] = Counter()
 
 
 def _fault(row: Row, why: str) -> JoinFault:
@@ -129,6 +132,9 @@ class Timed:
 
     def said(self, row: Row) -> Said:
         value = row.value
+        if value["event"] == "unmapped":
+            at = nanoseconds(value["time"]) or 0
+            return Said(self.places.known(at), {key: one for key, one in value.items() if key not in ("store", "time")})
         if value["event"] == "lost":
             lost = {"event": "gap", "from": value["from"], "to": value["to"], "reason": LOST, "lost": value["count"], "time": value["to"]}
             return Said(self.places.known(nanoseconds(value["to"]) or 0), lost)

@@ -17,6 +17,14 @@ class JoinFault(ToolFault):
     """Why logs can't be joined."""
 
 
+class Unreached(JoinFault):
+    """A log begins with changes that the others do not have, or do not have yet."""
+
+    def __init__(self, name: str, why: str):
+        super().__init__("%s %s" % (name, why))
+        self.name = name
+
+
 class Row(NamedTuple):
     """A line of a log, and where it stands."""
 
@@ -174,6 +182,11 @@ class Sketch:
         if value.get("time") is None:
             raise JoinFault("%s does not say when its changes came; it was written by a recorder that is too old to be joined" % self.given.name)
         return (value["time"], tuples[0] if tuples else None, bool(value.get("add")))
+
+
+def last_of(sketch: Sketch) -> int:
+    """The last revision of a log."""
+    return sketch.numbers[-1] if sketch.numbers else sketch.revision
 
 
 def refuse_unlike(sketches: list[Sketch]) -> None:

@@ -7,19 +7,15 @@ import grpc  # type: ignore[import]
 from new_enemy_tools.importing.reading import get
 from new_enemy_tools.recording.asking import FeedFault
 from new_enemy_tools.recording.grpc_calls import PERMISSIONS
-from new_enemy_tools.recording.grpc_relay import OPTIONS
+from new_enemy_tools.recording.grpc_relay import channel_of
 from new_enemy_tools.recording.protobuf import KIND, Malformed, read, written
 
 TIMEOUT = 30.0
 
 
 class GrpcSource:
-    def __init__(self, url: str, key: Optional[str]):
-        parts = urlsplit(url)
-        secure = parts.scheme == "https"
-        target = "%s:%d" % (parts.hostname, parts.port or (443 if secure else 50051))
-        self.channel = grpc.secure_channel(target, grpc.ssl_channel_credentials(), OPTIONS) if secure else \
-            grpc.insecure_channel(target, OPTIONS)
+    def __init__(self, url: str, key: Optional[str], ca: Optional[str]):
+        self.channel = channel_of(grpc, urlsplit(url), ca)
         self.metadata = [("authorization", "Bearer " + key)] if key else []
 
     def use_key(self, key: str) -> None:

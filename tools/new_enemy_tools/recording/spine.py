@@ -8,7 +8,7 @@ from collections import deque
 from typing import Any, Callable, Iterator, NamedTuple, Optional
 
 from new_enemy_tools.importing.events import Relationship
-from new_enemy_tools.recording.sketches import Change, JoinFault, Sketch, Value
+from new_enemy_tools.recording.sketches import Change, JoinFault, Sketch, Unreached, Value
 
 NEVER = 1 << 62
 Bears = Callable[[Change], bool]
@@ -102,6 +102,8 @@ class Spine:
         self.together: list[list[int]] = []
         self.groups: list[list[int]] = []
         self.at: dict[int, int] = {}
+        # changes of which it was said already what came at once with them
+        self.fixed: set[int] = set()
         self.ranks = [self._added(first)]
 
     @property
@@ -111,6 +113,10 @@ class Spine:
     def number(self, place: int) -> int:
         """The revision at a place."""
         return self.base + place
+
+    def keys(self, place: int) -> list[tuple[Any, ...]]:
+        """What the changes at a place are known by."""
+        return [self.changes[one].key for one in self.groups[place - 1]]
 
     def lines(self, place: int) -> Iterator[Value]:
         for one in self.groups[place - 1]:
@@ -128,8 +134,18 @@ class Spine:
         ranks.update(dict.fromkeys(self._in_base(sketch, others), 0))
         self.ranks.append(ranks)
 
+    def fix(self, place: int) -> None:
+        """The order of the changes up to a place stays, whatever other logs say of what came at once."""
+        self._order()
+        self.fixed = {one for group in self.groups[:place] for one in group}
+
     def end(self) -> list[Track]:
-        """All logs are there: a group stands where the last of it does."""
+        """All logs are there."""
+        self._order()
+        return [Track(ranks, max(ranks.values(), default=0), self) for ranks in self.ranks]
+
+    def _order(self) -> None:
+        """A group stands where the last of it does."""
         while True:
             lead = self._leaders()
             groups: dict[int, list[int]] = {}
@@ -143,7 +159,6 @@ class Spine:
             self.together = [group for group in self.together if lead[group[0]] in placed]
         self.groups = [groups[last] for last in order]
         self.at = {one: place for place, group in enumerate(self.groups, 1) for one in group}
-        return [Track(ranks, max(ranks.values(), default=0), self) for ranks in self.ranks]
 
     def _leaders(self) -> list[int]:
         """Of each change the last of its group."""
@@ -204,7 +219,7 @@ class Spine:
                     self.changes.append(change)
                 ranks[one] = step
                 group.append(one)
-            if len(group) > 1:
+            if len(group) > 1 and self.fixed.isdisjoint(group):
                 self.together.append(group)
         return ranks
 
@@ -225,8 +240,8 @@ class Spine:
         count = sketch.count - self.first.count
         tuples = [one for one in others if not self.changes[one].is_rules]
         if len(tuples) < count:
-            raise JoinFault("%s begins with %d changes that no other log has; give logs of which each begins before the one before has ended"
-                            % (sketch.given.name, count - len(tuples)))
+            raise Unreached(sketch.given.name, "begins with %d changes that no other log has; give logs of which each begins before the one "
+                            "before has ended" % (count - len(tuples)))
         found = set(tuples[:count]) | self._rules_in_base(sketch, [one for one in others if self.changes[one].is_rules])
         listed = [one for one in others if one in found]
         refuse_other_base(sketch, state_of(self.first.base, [self.changes[one] for one in listed]), self.first.unformed)
@@ -239,7 +254,7 @@ class Spine:
             rules = self.changes[others[count - 1]].value if count else self.first.rules
             if rules.get("model") == sketch.rules.get("model"):
                 return set(others[:count])
-        raise JoinFault("%s begins with another model than those of the other logs" % sketch.given.name)
+        raise Unreached(sketch.given.name, "begins with another model than those of the other logs")
 
 
 def state_of(base: set[Relationship], changes: list[Change]) -> set[Relationship]:
@@ -251,12 +266,12 @@ def state_of(base: set[Relationship], changes: list[Change]) -> set[Relationship
 
 
 def refuse_other_base(sketch: Sketch, state: set[Relationship], unformed: set[tuple[str, ...]]) -> None:
-    """Raises JoinFault where a log begins with another state than the others have there, but for what one of them has no form for."""
+    """Raises Unreached where a log begins with another state than the others have there, but for what one of them has no form for."""
     for one in sorted(state ^ sketch.base):
         if tuple(one[:3]) not in (unformed | sketch.unformed):
-            raise JoinFault("%s does not begin with what the other logs have there: %s is in %s, and not in %s. It is of another store, or "
-                            "there were changes that are in no log" % (
-                                sketch.given.name, one, *(("the other logs", "it") if one in state else ("it", "the other logs"))))
+            raise Unreached(sketch.given.name, "does not begin with what the other logs have there: %s is in %s, and not in %s. It is of another "
+                            "store, or there were changes that are in no log" % (
+                                one, *(("the other logs", "it") if one in state else ("it", "the other logs"))))
 
 
 class Numbered:
@@ -274,6 +289,9 @@ class Numbered:
     @property
     def count(self) -> int:
         return len(self.numbers)
+
+    def keys(self, place: int) -> list[tuple[Any, ...]]:
+        return [change.key for change in self.steps[self.numbers[place - 1]]]
 
     def lines(self, place: int) -> Iterator[Value]:
         for change in self.steps[self.numbers[place - 1]]:

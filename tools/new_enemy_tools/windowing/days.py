@@ -23,8 +23,11 @@ MAIL = "mail.txt"
 COMPARED = 3
 DAY = re.compile("day[0-9]{6,}")
 PIECE = 1 << 20
-# What a day goes on from; the last two days have it.
-GOING_ON = ("state", "left", "ids.jsonl")
+# What a day goes on from; the last two days have it. Of joined logs JOIN says what the days so far have of each.
+JOIN = "joined"
+GOING_ON = ("state", "left", "ids.jsonl", JOIN)
+# The folder of a joined log while it is imported.
+JOINED_LOG = "joined_log"
 TRACES = ("trace.zst", "trace.gz", "lines.json")
 # What names nobody.
 STAYS = ("summary.json", "told")
@@ -47,6 +50,8 @@ class Summary(NamedTuple):
     coverage: dict[str, Any] = {}
     # how many checks name a content version and carry a token
     looked: dict[str, int] = {}
+    # how many checks of joined logs wait for what another log has not closed yet
+    held_back: int = 0
 
 
 class Days:

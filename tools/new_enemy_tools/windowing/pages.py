@@ -9,7 +9,7 @@ from new_enemy_tools.windowing.effects import telling_in_full
 from new_enemy_tools.windowing.reading import Own
 from new_enemy_tools.windowing.run import Audited
 
-COLUMNS = ("Day", "From", "To", "Verdict", "Findings", "Checks", "Not audited whole", "Lost in gaps", "Name a version", "Carry a token", "Logs")
+COLUMNS = ("Day", "From", "To", "Verdict", "Findings", "Checks", "Not audited whole", "Held back", "Lost in gaps", "Name a version", "Carry a token", "Logs")
 
 
 def write_day(found: Audited, own: Own, ids: Optional[Ids], number: int, path: str) -> None:
@@ -36,6 +36,7 @@ def _cells(days: Days, number: int, summary: Summary) -> Iterator[str]:
     yield from (markup(str(covered.get(key, ""))) for key in ("from", "to"))
     yield '<span class="verdict %s">%s</span>' % (color_of(verdict, looked_of(summary.looked)), VERDICTS[verdict].partition(":")[0])
     yield from map(str, (summary.findings, checks))
-    yield from (str(sum(sum(covered.get(key, {}).values()) for key in keys)) for keys in (("in_part", "not_audited"), ("lost",)))
+    not_whole, lost = (str(sum(sum(covered.get(key, {}).values()) for key in keys)) for keys in (("in_part", "not_audited"), ("lost",)))
+    yield from (not_whole, str(summary.held_over + summary.held_back), lost)
     yield from (str(summary.looked.get(key, "")) for key in ("with_version", "with_token"))
     yield markup(", ".join(summary.logs))

@@ -1,0 +1,224 @@
+"""What OpenFGA's own log, and Envoy's taps, say of checks, in the form of what applications say (own_events.py).
+
+The form of a tap is that of Envoy's public documentation (`envoy.data.tap.v3`). OpenFGA's lines are read as the import reads them. Neither
+says what it does not have, so what comes behind its last line is a gap.
+"""
+import base64
+from collections import Counter
+from typing import Any, Iterable, Iterator, NamedTuple, Optional
+
+from new_enemy_tools.importing import causes, passing, printed
+from new_enemy_tools.importing.openfga import CONSISTENCY, OpenFgaLog
+from new_enemy_tools.importing.openfga_answers import answers_of
+from new_enemy_tools.importing.reading import Bad, get
+from new_enemy_tools.importing.refusals import Refusals
+from new_enemy_tools.importing.service import Answer, content_of, text_or_none
+from new_enemy_tools.importing.times import nanoseconds, text_of_time
+from new_enemy_tools.recording.core import body_of, refuse_headers
+from new_enemy_tools.recording.http_reading import path_of
+from new_enemy_tools.recording.messages import CHECKS, Ended
+from new_enemy_tools.recording.openfga import PATH, call_of
+from new_enemy_tools.recording.own_events import Own
+from new_enemy_tools.recording.reader import LABELS
+from new_enemy_tools.recording.sketches import JoinFault, Row, Value
+
+TAP = "http_buffered_trace"
+OTHER_TAPS = ("http_streamed_trace_segment", "socket_buffered_trace", "socket_streamed_trace_segment")
+# The log's times may be cut to milliseconds.
+CUT = 1_000_000
+FAILED, OTHER, OTHER_STORE = "requests that failed", "other calls", "checks of other stores"
+OVER_GRPC = "a check over gRPC in a tap"
+CUT_SHORT = "a check whose body Envoy cut short"
+STREAMED = "a streamed list in a tap, of which it is not known when it ended"
+TOKEN = "a token beside a check that no recorder passed"
+CONSISTENT = "a check with an unknown consistency"
+# Keys by which an import places a line of the log.
+PLACES = ("snapshot", "snapshot_between", "token", "newest")
+
+
+class Call(NamedTuple):
+    """A call that decides: of which store, what was asked and answered, as far as that is known, from when to when, what the application says
+    with it, and why it can't be taken."""
+
+    store: str
+    asked: object
+    answered: object
+    began: int
+    ended: int
+    save: Optional[str]
+    version: Optional[str]
+    why: Optional[str] = None
+
+
+def overheard(name: str, rows: Iterable[Row], took: int) -> Own:
+    """What a log or some taps say; a request of the log began at most `took` nanoseconds before its line. Raises JoinFault."""
+    made: list[Row] = []
+    passed: Counter[str] = Counter()
+    until = 0
+    for row in rows:
+        call = _tapped(row) if any(get(row.value, key) is not None for key in (TAP, *OTHER_TAPS)) else _logged(row, took)
+        if isinstance(call, str):
+            passed[call] += 1
+        elif call is not None:
+            until = max(until, call.ended)
+            made += (row._replace(value=value) for value in _values(call))
+    return Own(name, None, until, made, False, passed)
+
+
+def _fault(row: Row, why: str) -> JoinFault:
+    return JoinFault("%s:%d: %s" % (row.file, row.line, why))
+
+
+def _values(call: Call) -> Iterator[Value]:
+    """A line for each thing that a call decides."""
+    ended = text_of_time(call.ended)
+    lost = {"event": "unmapped", "store": call.store, "time": ended}
+    try:
+        answers = [] if call.why is not None else list(answers_of(call.asked, call.answered, Refusals()))
+    except Bad as fault:
+        yield {**lost, "reason": causes.UNREADABLE, "detail": str(fault), **_saved(call, None)}
+        return
+    message = Ended(0, "", "", call.began, call.ended, 0, call.save, call.version, None, 200, None, None, None, call.why)
+    try:
+        refuse_headers(message, answers)
+        newest = call.save is not None or _newest(call.asked)
+    except Bad as fault:
+        if not answers:
+            yield {**lost, "reason": str(fault), **_saved(call, None)}
+        for answer in answers:
+            yield {**lost, "reason": str(fault), "detail": str(answer.goal), **_saved(call, answer)}
+        return
+    for answer in answers:
+        if answer.unmapped:
+            yield {**lost, "reason": answer.unmapped, "detail": str(answer.goal), **_saved(call, answer)}
+            continue
+        said = {"saves": call.save, "shows": call.version, "model": get(call.asked, "authorization_model_id") or None}
+        yield {"event": "asked", "store": call.store, "began": text_of_time(call.began), "ended": ended, "goal": list(answer.goal[:5]),
+               "reply": answer.reply, "newest": newest, **{key: one for key, one in said.items() if one is not None}}
+
+
+def _newest(asked: object) -> bool:
+    found = get(asked, "consistency")
+    if isinstance(found, bool) or not isinstance(found, (str, int, type(None))) or found not in CONSISTENCY:
+        raise Bad(CONSISTENT)
+    return CONSISTENCY[found]
+
+
+def _saved(call: Call, answer: Optional[Answer]) -> dict[str, Any]:
+    """The version that a call may have saved which is not taken."""
+    thing = None if answer is None else answer.goal[:2]
+    if thing is None and call.save is not None:
+        found = get(get(call.asked, "tuple_key"), "object")
+        thing = tuple(found.split(":", 1)) if isinstance(found, str) and ":" in found else None  # type: ignore[assignment]
+    return {} if not call.save or thing is None else {"version": [*thing, call.save]}
+
+
+# OpenFGA's log
+
+def _logged(row: Row, took: int) -> Any:
+    """The call of a line, what is counted of another one, or None of what the server says of itself; raises JoinFault."""
+    given = row.value
+    for key in printed.mistyped(given):
+        raise _fault(row, key.said())
+    if "raw_request" not in given and not isinstance(given.get("grpc_method"), str):
+        if printed.is_own_log(given):
+            return None
+        raise _fault(row, "no line of OpenFGA's log in JSON, and no tap of Envoy's tap filter (`%s`)" % TAP)
+    value = printed.unwrapped(given, OpenFgaLog.KEYS)
+    placed = next((key for key in PLACES if key in value), None)
+    if placed is not None:
+        raise _fault(row, "a line with `%s` has its place already; give the log to ne import openfga" % placed)
+    if passing.failure_of(value, OpenFgaLog.DECIDES) is not None:
+        return FAILED
+    if passing.method_of(value) not in OpenFgaLog.DECISIONS:
+        return OTHER
+    ended = nanoseconds(value.get("time"))
+    if ended is None:
+        raise _fault(row, "the line has no `timestamp`, as seconds since 1970 or as a time of RFC 3339")
+    try:
+        content, version = content_of(value), text_or_none(value.get("version"), "version")
+        save, token = text_or_none(get(content, "version"), "version"), get(content, "token")
+    except Bad as fault:
+        raise _fault(row, str(fault)) from None
+    asked = value.get("request")
+    why = causes.UNREADABLE if asked is None else TOKEN if token is not None else None
+    store = get(asked, "store_id") or given.get("store_id")
+    if not isinstance(store, str):
+        raise _fault(row, "the line does not say of which store it is (`store_id`)")
+    return Call(store, asked, value.get("response"), ended - took, ended + CUT, save, version, why)
+
+
+# Envoy's taps
+
+def _tapped(row: Row) -> Any:
+    """The call of a tap, or what is counted of another one; raises JoinFault."""
+    other = next((key for key in OTHER_TAPS if get(row.value, key) is not None), None)
+    if other is not None:
+        raise _fault(row, "a tap of the kind `%s`; set `streaming: false` in the tap filter of HTTP" % other)
+    request, response = (get(get(row.value, TAP), part) for part in ("request", "response"))
+    asked, answered = _headers(row, request), _headers(row, response)
+    method, path = asked.get(":method", [""])[0], path_of(asked.get(":path", [""])[0])
+    is_grpc = asked.get("content-type", [""])[0].startswith("application/grpc")
+    call, found = call_of(method, path), PATH.search(path)
+    if is_grpc and path.startswith("/openfga.") and path.rpartition("/")[2] in OpenFgaLog.DECISIONS:
+        call, store = "check", ""
+    elif call not in CHECKS or found is None:
+        return OTHER
+    else:
+        store = found[1]
+    if answered.get(":status", [""])[0] != "200":
+        return FAILED
+    began, ended = (nanoseconds(get(part, "headers_received_time")) for part in (request, response))
+    if began is None or ended is None:
+        raise _fault(row, "the tap does not say when its headers came; set `record_headers_received_time: true` in the tap filter")
+    named = {name: asked.get(header, []) for name, header in LABELS.items()}
+    twice = next((LABELS[name].title() for name, listed in named.items() if len(listed) > 1), None)
+    save, version, token = (listed[0] if listed else None for listed in named.values())
+    why = OVER_GRPC if is_grpc else STREAMED if call == "stream" else "%s stands twice" % twice if twice else TOKEN if token is not None else None
+    bodies: list[object] = [None, None]
+    try:
+        for place, (part, headers) in enumerate(((request, asked), (response, answered))):
+            bodies[place] = None if why is not None and place else _body(part, headers)
+    except Bad as fault:
+        why = why or str(fault)
+    return Call(store, bodies[0], bodies[1], began, ended, save, version, why)
+
+
+def _headers(row: Row, message: object) -> dict[str, list[str]]:
+    """The values of each header."""
+    found: dict[str, list[str]] = {}
+    listed = get(message, "headers") or []
+    if not isinstance(listed, list):
+        raise _fault(row, "the headers of the tap are no list")
+    for one in listed:
+        name, value, raw = get(one, "key"), get(one, "value"), get(one, "raw_value")
+        if value is None and isinstance(raw, str):
+            value = base64.b64decode(raw).decode("utf-8", "replace")
+        if not isinstance(name, str) or not isinstance(value, str):
+            raise _fault(row, "a header of the tap has no `key` or no `value`")
+        found.setdefault(name.lower(), []).append(value)
+    return found
+
+
+def _body(message: object, headers: dict[str, list[str]]) -> object:
+    """The JSON of a body; raises Bad."""
+    body = get(message, "body")
+    if get(body, "truncated"):
+        raise Bad(CUT_SHORT)
+    text, data = get(body, "as_string"), get(body, "as_bytes")
+    try:
+        raw = text.encode() if isinstance(text, str) else base64.b64decode(data or "", validate=True)
+        encoding = next(iter(headers.get("content-encoding", ())), None)
+        return body_of(Ended(0, "", "", 0, 0, 0, None, None, None, 200, None, raw, encoding))
+    except (ValueError, TypeError):
+        raise Bad(causes.UNREADABLE) from None
+
+
+def of_store(own: Own, store: Optional[str]) -> Own:
+    """What is said of one store; of others it is counted. Raises JoinFault where nothing is of it."""
+    rows = [row for row in own.rows if row.value["store"] in (store, "")]
+    if own.rows and not rows:
+        raise JoinFault("%s has checks of the store %s alone, and the logs are of %s" % (
+            own.name, own.rows[0].value["store"], store or "another service"))
+    passed = own.passed + Counter({OTHER_STORE: len(own.rows) - len(rows)})
+    return own._replace(store=store, rows=rows, passed=passed)

@@ -1,0 +1,188 @@
+"""OpenFGA's own log and Envoy's taps beside a log of the changes alone: ne record --changes-only, and ne join."""
+import base64
+import gzip
+import json
+import os
+import time
+from collections import Counter
+
+from new_enemy_tools.importing import causes
+from new_enemy_tools.importing.times import nanoseconds, text_of_time
+from new_enemy_tools.recording import overheard
+from new_enemy_tools.recording.joining import Join
+from new_enemy_tools.recording.sketches import Given, JoinFault, Row
+from tests.stand_in_openfga import STORE
+from tests.support import Case
+from tests.test_joining import events
+from tests.test_own_events import SECONDS, at, log
+from tests.test_recording_openfga import EARLY, FIXED, MODEL, USERS, OpenFga, key
+
+KEY = {"object": "document:d", "relation": "viewer", "user": "user:a"}
+
+
+def logged(second, request=None, response=None, method="Check", **more):
+    """A line of OpenFGA's log, of a check that its newest state answered with true."""
+    asked = {"store_id": "S", "tuple_key": KEY, "consistency": "HIGHER_CONSISTENCY", **(request or {})}
+    return {"level": "info", "timestamp": at(second), "msg": "grpc_req_complete", "grpc_service": "openfga.v1.OpenFGAService", "grpc_method": method,
+            "raw_request": asked, "raw_response": {"allowed": True, "resolution": ""} if response is None else response, "grpc_code": 0, **more}
+
+
+def tapped(began, ended, request=None, response=None, path="/stores/S/check", status="200", answer=(), **headers):
+    """A tap of Envoy, of a check that its newest state answered with true."""
+    def part(times, body, *listed):
+        return {"headers": [{"key": name, "value": value} for name, value in listed], "headers_received_time": times, "trailers": [],
+                "body": body if "truncated" in body else {"truncated": False, "as_string": json.dumps(body)}}
+    asked = {"tuple_key": KEY, "consistency": "HIGHER_CONSISTENCY"} if request is None else request
+    named = [(name.replace("_", "-"), value) for name, value in headers.items()]
+    return {"http_buffered_trace": {
+        "request": part(at(began), asked, (":method", "POST"), (":path", path), ("content-type", "application/json"), *named),
+        "response": part(at(ended), {"allowed": True} if response is None else response, (":status", status), *answer)}}
+
+
+def joined(log_rows, rows, took=3 * SECONDS, name="heard"):
+    given = Given("log", lambda: (Row("log", number, row) for number, row in enumerate(log_rows, 1)), True)
+    join = Join([given], 0, [overheard.overheard(name, [Row(name, number, row) for number, row in enumerate(rows, 1)], took)])
+    return list(join.lines()), join.own[0].passed
+
+
+class Parts(Case):
+    def places(self, rows):
+        return [row.get("newest_between") or row.get("snapshot_between") or row.get("reason") for row in rows if row["event"] in ("check", "content", "unmapped")]
+
+    def test_a_check_of_the_log_began_no_earlier_than_a_request_may_take(self):
+        for took, place in ((3, [1, 1]), (6, [0, 1])):
+            made, _ = joined(log((10, "a"), (20, "b")), [logged(15)], took * SECONDS)
+            self.assertEqual(self.places(made), [place])
+
+    def test_what_came_within_the_millisecond_that_is_cut(self):
+        rows = log((10, "a"))
+        rows[-2]["came"] = ["2024-01-01T00:00:15.0005Z", "2024-01-01T00:00:15.0006Z"]
+        self.assertEqual(self.places(joined(rows, [logged(15)])[0]), [[0, 1]])
+
+    def test_seconds_since_1970(self):
+        made, _ = joined(log((10, "a")), [logged(0, timestamp=nanoseconds(at(15)) / 1e9)])
+        self.assertEqual(self.places(made), [[1, 1]])
+
+    def test_calls_that_decide_several_things(self):
+        batch = {"checks": [{"tuple_key": KEY, "correlation_id": "1"}, {"tuple_key": {**KEY, "user": "user:b"}, "correlation_id": "2"}]}
+        made, _ = joined(log((10, "a")), [
+            logged(15, batch, {"result": {"1": {"allowed": True}, "2": {"allowed": False}}}, "BatchCheck"),
+            logged(16, {"type": "document", "relation": "viewer", "user": "user:a"}, {"objects": ["document:d", "document:e"]}, "ListObjects")])
+        self.assertEqual([(row["goal"][1], row["goal"][4], row["reply"]) for row in made if row["event"] == "check"],
+                         [("d", "a", True), ("d", "b", False), ("d", "a", True), ("e", "a", True)])
+
+    def test_versions_that_somebody_adds_to_the_log(self):
+        made, _ = joined(log((10, "a")), [logged(15, content={"version": "v"}), logged(16, version="v")])
+        self.assertEqual([(row["event"], row.get("version")) for row in made if row["event"] in ("check", "content")], [("content", "v"), ("check", "v")])
+
+    def test_what_has_no_decision_is_counted(self):
+        rows = [{"level": "info", "msg": "starting"}, logged(15), logged(15, method="Write"), logged(15, response={}, grpc_code=5, error="x"),
+                logged(15, {"store_id": "T"}), tapped(12, 15, path="/stores/S/read"), tapped(12, 15, status="404"), tapped(12, 15, path="/stores/T/check")]
+        made, passed = joined(log((10, "a")), rows)
+        self.assertEqual(self.places(made), [[1, 1]])
+        self.assertEqual(passed, Counter({overheard.OTHER: 2, overheard.FAILED: 2, overheard.OTHER_STORE: 2}))
+
+    def test_what_can_not_be_taken_is_counted(self):
+        untold = logged(15, store_id="S")
+        del untold["raw_request"], untold["raw_response"]
+        content = logged(15, {"contextual_tuples": {"tuple_keys": [KEY]}}, content={"version": "v"})
+        rows = [untold, content, logged(15, {"consistency": 7}), logged(15, content={"version": "v", "token": at(1)}), logged(15, response={"allowed": 3})]
+        made, _ = joined(log((10, "a")), rows)
+        self.assertEqual(self.places(made), [causes.UNREADABLE, causes.CONTEXTUAL, overheard.CONSISTENT, overheard.TOKEN, causes.UNREADABLE])
+        self.assertEqual([row.get("version") for row in made if row["event"] == "unmapped"],
+                         [None, ["document", "d", "v"], None, ["document", "d", "v"], None])
+
+    def test_what_comes_behind_the_last_line_is_a_gap(self):
+        made, _ = joined(log((10, "a")), [logged(15)])
+        self.assertEqual([(row["reason"], row["to"]) for row in made if row["event"] == "gap"],
+                         [("heard has no end, since its process runs or was killed", "2024-01-01T00:00:50.000000Z")])
+
+    def test_taps(self):
+        made, _ = joined(log((10, "a"), (20, "b")), [tapped(12, 15, x_content_save="v"), tapped(5, 15), tapped(12, 22, x_content_version="v")])
+        self.assertEqual([(row["event"], row["newest_between"], row.get("version")) for row in made if row["event"] in ("check", "content")],
+                         [("content", [1, 1], "v"), ("check", [0, 1], None), ("check", [1, 2], "v")])
+        self.assertEqual(events(made)[2:5], [("write", 1), ("content", None), ("check", None)])
+
+    def test_bodies_as_bytes_and_compressed(self):
+        one = tapped(12, 15, response={"truncated": False, "as_bytes": base64.b64encode(gzip.compress(b'{"allowed":false}')).decode()},
+                     answer=[("content-encoding", "gzip")])
+        made, _ = joined(log((10, "a")), [one])
+        self.assertEqual([row["reply"] for row in made if row["event"] == "check"], [False])
+
+    def test_taps_that_can_not_be_taken_are_counted(self):
+        twice = tapped(12, 15)
+        twice["http_buffered_trace"]["request"]["headers"] += [{"key": "X-Content-Save", "value": "v"}] * 2
+        rows = [tapped(12, 15, response={"truncated": True, "as_string": "{"}), tapped(12, 15, path="/stores/S/streamed-list-objects"), twice,
+                tapped(12, 15, path="/openfga.v1.OpenFGAService/Check"), tapped(12, 15, x_content_token=at(1)), tapped(12, 15, {"truncated": False})]
+        rows[3]["http_buffered_trace"]["request"]["headers"][2]["value"] = "application/grpc"
+        made, _ = joined(log((10, "a")), rows)
+        self.assertEqual(self.places(made), [overheard.CUT_SHORT, overheard.STREAMED, "X-Content-Save stands twice", overheard.OVER_GRPC, overheard.TOKEN,
+                                             causes.UNREADABLE])
+        self.assertEqual([row["version"] for row in made if row.get("reason", "").endswith("twice")], [["document", "d", "v"]])
+
+    def test_what_is_refused(self):
+        untimed = tapped(12, 15)
+        del untimed["http_buffered_trace"]["response"]["headers_received_time"]
+        for rows, told in (
+                ([logged(15, verison="v")], 'heard:1: unknown key "verison"; is "version" meant?'),
+                ([logged(15, timestamp=None)], "heard:1: the line has no `timestamp`, as seconds since 1970 or as a time of RFC 3339"),
+                ([logged(15), logged(15, snapshot=1)], "heard:2: a line with `snapshot` has its place already; give the log to ne import openfga"),
+                ([logged(15, {"store_id": None})], "heard:1: the line does not say of which store it is (`store_id`)"),
+                ([{"a": 1}], "heard:1: no line of OpenFGA's log in JSON, and no tap of Envoy's tap filter (`http_buffered_trace`)"),
+                ([logged(15, {"store_id": "T"})], "heard has checks of the store T alone, and the logs are of S"),
+                ([{"http_streamed_trace_segment": {}}], "heard:1: a tap of the kind `http_streamed_trace_segment`; set `streaming: false` in the tap "
+                 "filter of HTTP"),
+                ([untimed], "heard:1: the tap does not say when its headers came; set `record_headers_received_time: true` in the tap filter")):
+            with self.subTest(told), self.assertRaises(JoinFault) as found:
+                joined(log((10, "a")), rows)
+            self.assertEqual(str(found.exception), told)
+
+
+class Processes(OpenFga):
+    def test_what_is_overheard_is_audited(self):
+        """Stale replies that the service plants are found, and no other; half of the checks stand in taps, and half in OpenFGA's log."""
+        self.start_service(MODEL, "0.3", "planted")
+        self.prepare()
+        recorder = self.started("log", "--changes-only")
+        self.wait_for(lambda: self.of_kind("read") if "recording" in self.get("said") else False, lambda: self.get("said"))
+        os.mkdir(self.path("taps"))
+        heard, longest = [], [0]
+        self.port = self.service_port
+
+        def work(client, random, number, turn):
+            user, thing = random.choice(USERS), random.choice(FIXED + EARLY)
+            if turn % 7 == 0:
+                self.write(client, key("user:n%d.%d" % (number, turn), "viewer", "document:x"))
+            began = time.time_ns()
+            reply = self.check(client, user, "viewer", thing)[1]["allowed"]
+            ended = time.time_ns()
+            asked = {"tuple_key": key(user, "viewer", thing), "consistency": "HIGHER_CONSISTENCY"}
+            if turn % 2:
+                one = tapped(0, 0, asked, {"allowed": reply}, path="/stores/%s/check" % STORE)
+                for part, when in (("request", began), ("response", ended)):
+                    one["http_buffered_trace"][part]["headers_received_time"] = text_of_time(when)
+                self.put("taps/check_%d_%d.json" % (number, turn), json.dumps(one, indent=1))
+            else:
+                longest[0] = max(longest[0], ended - began)
+                heard.append(logged(0, {**asked, "store_id": STORE}, {"allowed": reply}, timestamp=text_of_time(ended // 10 ** 6 * 10 ** 6)))
+        self.run_clients(4, 40, work)
+        self.put("openfga.log", [{"level": "info", "msg": "starting"}, *heard])
+        # A check is placed where the changes were read beyond it.
+        until = time.time_ns() + 30_000_000
+        self.wait_for(lambda: nanoseconds(self.of_kind("read")[-1]["until"]) > until)
+        self.end(recorder)
+        run = self.run_process("join", "--skew", "20", "--took", str(longest[0] / 1e9 + 0.01), "--out", "all", "log", "openfga.log", "taps")
+        self.assertEqual((run.returncode, run.stderr), (0, ""))
+        self.import_log(folder="all")
+        found, planted = self.found(), len(self.get("planted").splitlines())
+        self.assertEqual(set.union(*found.values()), {"F10 wrong reply"})
+        lost = len([row for row in self.of_kind("unmapped", "all") if "detail" in row])
+        self.assertEqual(len(self.of_kind("check", "all")) + lost, 4 * 40)
+        self.assertLessEqual(len(found), planted)
+        self.assertGreater(len([row for row in self.of_kind("check", "all") if "taps/" in row["file"]]), 40)
+        self.assertTrue(any("taps/" in place for place in found), found)
+
+    def test_what_is_no_log_of_any_kind(self):
+        self.put("odd", "[1]\n")
+        run = self.run_process("join", "--out", "all", "odd")
+        self.assertEqual((run.returncode, run.stderr), (2, "odd:1: no object of JSON\n"))
