@@ -21,7 +21,8 @@ class Bearing:
             for relation in relations:
                 reads = self.reads.setdefault((name, relation.name), set())
                 # A userset that is stored leads to another object.
-                reads.update(((of, user), False) for of, user in rules.takes.get((name, relation.name), ()) if user not in (None, EVERY))
+                reads.update(((of, user), False) for of, user in rules.takes.get((name, relation.name), ())
+                             if user is not None and user != EVERY)
                 for place in places(relation.rewrite):
                     if place.form == "computed":
                         reads.add(((name, place.names[0]), True))

@@ -4,6 +4,7 @@ import socket
 import struct
 import time
 from collections import Counter, deque
+from io import BufferedReader
 from typing import Any, BinaryIO, Iterator, NamedTuple, Optional
 
 SIZE = struct.Struct("<I")
@@ -157,7 +158,7 @@ class Teller:
 
 def messages_from(end: socket.socket) -> Iterator[tuple[Any, ...]]:
     """What the other side tells, until it is gone."""
-    file = end.makefile("rb", 1 << 16)
+    file = BufferedReader(end.makefile("rb", 0), 1 << 16)
     while len(head := _read(file, SIZE.size)) == SIZE.size:
         data = _read(file, SIZE.unpack(head)[0])
         if len(data) < SIZE.unpack(head)[0]:

@@ -276,10 +276,10 @@ class OpenFga:
         makers: list[Optional[Made]] = []
         for change in changes:
             found = wanted.get((change.given, change.live)) if change.given is not None else None
-            made = found.popleft() if found else None
-            makers.append(made)
-            if made is not None and self.began - self.horizon > made.answered:
-                self._learn(message.received - made.asked)
+            maker = found.popleft() if found else None
+            makers.append(maker)
+            if maker is not None and self.began - self.horizon > maker.answered:
+                self._learn(message.received - maker.asked)
         return _spread(changes, makers)
 
     def _learn(self, late: int) -> None:

@@ -51,7 +51,7 @@ class OpenFgaFeed:
     def _begin(self, left: Optional[Left], put: Callable[[Any], None]) -> None:
         self.store = self.store or self._only_store()
         began, back = time.monotonic_ns(), int(self.settings.overlap * 1e9)
-        overlap, stored, changes = Overlap(left.place.cursor if left else None, back), Stored(), []
+        overlap, stored, changes = Overlap(left.place.cursor if left else None, back), Stored(), list[Change]()
         if left is None:
             end = self._take_all(overlap, stored, back)
         else:

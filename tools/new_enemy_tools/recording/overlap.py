@@ -105,7 +105,7 @@ class Overlap:
         left: dict[tuple[Optional[Relationship], bool, int], deque[Change]] = {}
         for change in self.shown:
             left.setdefault((change.given, change.live, change.time), deque()).append(change)
-        now, new = [], []
+        now, new = list[Change](), list[Change]()
         for change in listed:
             found = left.get((change.given, change.live, change.time))
             if found:

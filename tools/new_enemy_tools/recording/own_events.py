@@ -125,7 +125,7 @@ class Timed:
             if step[0].came is None:
                 raise JoinFault("%s does not say of all changes when they came" % sketch.given.name)
             since, end = step[0].came
-            changes = [Changed(given, True, 0) for change in step for given in change.tuples or [None]]
+            changes = [Changed(given, True, 0) for change in step for given in change.tuples or (None,)]
             if step[0].is_rules:
                 self.models.append((step[0].value["revision"], step[0].value.get("model")))
             self.places.add([Came(since - skew, end + skew, *([] if step[0].is_rules else changes))])

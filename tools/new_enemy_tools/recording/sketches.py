@@ -55,7 +55,8 @@ class Change:
 
     @property
     def is_rules(self) -> bool:
-        return self.value["event"] == "rules"
+        event: str = self.value["event"]
+        return event == "rules"
 
 
 def tuples_of(value: Value) -> list[Relationship]:

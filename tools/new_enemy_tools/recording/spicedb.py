@@ -272,7 +272,8 @@ class SpiceDb:
             self.unsure.append(message)
             core.lose("the schema changed twice before its text was read", 0, 0)
             # What waits was put there when these rules were not known to be unsure.
-            core.lose_entries(lambda one: one.place >= message.start, UNSURE)
+            start = message.start
+            core.lose_entries(lambda one: one.place >= start, UNSURE)
         elif isinstance(message, Watched):
             self._take_watched(message, core)
 

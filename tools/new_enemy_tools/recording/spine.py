@@ -210,15 +210,15 @@ class Spine:
         for step, changes in enumerate(sketch.steps, 1):
             group = []
             for change in changes:
-                one = wanted.take(change.key, ranks)
-                if one is None and not change.is_rules:
+                known = wanted.take(change.key, ranks)
+                if known is None and not change.is_rules:
                     # Where one of two logs has no form for it, its time tells alone.
-                    one = timed.take((change.key[0], bool(change.tuples)), ranks)
-                if one is None:
-                    one = len(self.changes)
+                    known = timed.take((change.key[0], bool(change.tuples)), ranks)
+                if known is None:
+                    known = len(self.changes)
                     self.changes.append(change)
-                ranks[one] = step
-                group.append(one)
+                ranks[known] = step
+                group.append(known)
             if len(group) > 1 and self.fixed.isdisjoint(group):
                 self.together.append(group)
         return ranks

@@ -27,5 +27,5 @@ class Stored:
 
     def items(self) -> Iterator[tuple[Relationship, Optional[str]]]:
         for text, reason in self.tuples.items():
-            *parts, relation = text.split(APART)
-            yield Relationship(*parts, relation or None), reason
+            of, id_text, relation, user_type, user_id, user_relation = text.split(APART)
+            yield Relationship(of, id_text, relation, user_type, user_id, user_relation or None), reason
