@@ -8,7 +8,7 @@ use crate::maker::{Made, made_of};
 use evidence_check::{AskedRules, Step, Steps};
 use std::alloc::{AllocError, Global};
 use trace_lines::Entry;
-use tuple_text::{Fact, SetRef};
+use tuple_text::{Fact, FactRef, SetRef};
 
 /// What was found for an entry of this userset, user and reply.
 #[derive(Clone, Copy)]
@@ -32,10 +32,7 @@ fn changed_fact(alloc: Global, fact: &Fact, change: Change) -> Result<Fact, Allo
     } else {
         fact.user()
     };
-    match Fact::of(alloc, fact.set(), user) {
-        Ok(fact) => Ok(fact),
-        Err(_) => Err(AllocError),
-    }
+    FactRef::from_parts(fact.set(), user).to_fact(alloc)
 }
 
 fn changed_facts(alloc: Global, facts: &[Fact], change: Change) -> Result<Vec<Fact>, AllocError> {

@@ -20,13 +20,13 @@ use crate::like::{Found, made_like};
 use crate::needed::needed_steps;
 use crate::settle::settle;
 use evidence_check::{AskedRules, Judged, Step, Steps, has_too_many, judge_steps_by};
-use goal_cone::{Leaves, explore_by, find_path};
+use goal_cone::{Leaves, Settled, direct_search, explore_by};
 use goal_gates::{Gates, KeptRules};
 use record_text::record_bytes;
 use std::alloc::{AllocError, Global};
 use std::marker::Model;
 use trace_lines::{Entry, Trace};
-use tuple_text::{Fact, FactRef};
+use tuple_text::FactRef;
 
 /// Steps that are made for an entry, and how they judge it.
 #[derive(Drop)]
@@ -87,39 +87,36 @@ fn yes_alone(alloc: Global, entry: &Entry<'_>) -> Result<Steps, AllocError>
     Ok(steps)
 }
 
-/// Each of these facts holds, said one after the other.
-fn yes_each(alloc: Global, facts: Vec<Fact>) -> Result<Steps, AllocError> {
-    let mut steps = Vec::with_capacity(alloc, facts.len())?;
-    for fact in facts {
-        steps.push(Step::Yes(fact))?;
+/// Steps that say what was settled, in the same order.
+fn steps_of(alloc: Global, settled: Vec<Settled>) -> Result<Steps, AllocError> {
+    let mut steps = Vec::with_capacity(alloc, settled.len())?;
+    for one in settled {
+        let step = match one {
+            Settled::Holds(fact) => Step::Yes(fact),
+            Settled::Fail(facts) => Step::No(facts),
+        };
+        steps.push(step)?;
     }
     Ok(steps)
 }
 
 /// Evidence that is found without a look at the goal's whole cone: by the way that was found for another entry, or by
-/// a path to the goal, where the reply says that it holds.
+/// a direct search.
 fn made_soon(
     alloc: Global,
     asked: &mut AskedRules<'_>,
-    leaves: &mut Leaves<'_>,
     entry: &Entry<'_>,
     found: Option<Found<'_>>,
 ) -> Result<Option<Made>, AllocError>
-    requires { leaves.old.declarations ≡ asked.old.declarations }
     ensures asked { asked.new ≡ asked.old }
-    ensures leaves { leaves.new.declarations ≡ leaves.old.declarations }
     ensures made { IfOk result (λ o. IfSome o (IsMadeFor asked.old (entry_value entry.now))) }
 {
     if let Some(made) = made_like(alloc, asked, entry, found)? {
         return Ok(Some(made));
     }
-    if !entry.reply {
-        return Ok(None);
-    }
     let snapshot = asked.trace().timeline().at(entry.snapshot);
-    let goal = entry.goal.to_fact(alloc)?;
-    match find_path(alloc, leaves, &snapshot, &goal)? {
-        Some(path) => made_of(asked, entry, yes_each(alloc, path)?),
+    match direct_search(alloc, &snapshot, entry.goal)? {
+        Some(settled) => made_of(asked, entry, steps_of(alloc, settled)?),
         None => Ok(None),
     }
 }
@@ -160,7 +157,7 @@ fn made_for<'t>(
     if let Some(made) = made_of(asked, entry, no)? {
         return Ok(made);
     }
-    if let Some(made) = made_soon(alloc, asked, leaves, entry, found)? {
+    if let Some(made) = made_soon(alloc, asked, entry, found)? {
         return Ok(made);
     }
     let snapshot = asked.trace().timeline().at(entry.snapshot);

@@ -10,12 +10,14 @@
 //! (`AreTargets`), where it is given the namespaces that declare them; [`Leaves`] notes these with each part of a rule
 //! (`IsNoted`).
 //!
-//! [`find_path`] seeks a short proof: a path of rules from the goal to a stored user. Nothing is promised of it.
+//! [`direct_search`] goes forward from a goal up to what settles it, and gives the facts on which that rests, in their
+//! order, or gives up after so many facts and stored usersets. Nothing is promised of it.
 //!
-//! What a call costs is no promise. It recurs over rules alone, never over facts; its memory is that of the cone, and a
-//! look-up among facts goes by their marks. What is stored in a tupleset is gone over once for all relations that a
-//! rule reads through it, and where many usersets were stored there, what is dead or declares none of them is not.
-//! [`Leaves`] keeps what was read of rules for the next goals.
+//! What a call costs is no promise. To find a cone recurs over rules alone, never over facts, and a direct search over
+//! both, up to a bound. The memory is that of the cone, and a look-up among facts goes by their marks. What is stored
+//! in a tupleset is gone over once for all relations that a rule of a cone reads through it, and where many usersets
+//! were stored there, what is dead or declares none of them is not. [`Leaves`] keeps what was read of rules for the
+//! next goals.
 //!
 //! ```text
 //! let mut leaves = Leaves::new(alloc, snapshot.timeline.rules());
@@ -23,17 +25,18 @@
 //! ```
 #![tactic(auto)]
 
+mod answers;
 mod cone;
 mod fault;
 mod leaves;
-mod path;
 mod premises;
+mod search;
 mod seen;
 mod through;
 
 pub use cone::{explore, explore_by};
 pub use fault::ConeFault;
 pub use leaves::{Leaves, ReadPart};
-pub use path::find_path;
 pub use premises::{MAX_LINKS, MAX_USERSETS};
+pub use search::{Settled, direct_search};
 pub use through::targets;
