@@ -9,6 +9,7 @@
 //! [`Chains::append`] adds one commit at the end or changes nothing, each question is answered by those
 //! definitions alone, and none of the questions takes memory. [`Users`], [`Usersets`] and [`History`] are iterators
 //! whose model is the list of what is left to give; `proofs.CallerLemmas` says what a loop over them shows.
+//! [`Usersets::step`] looks at one tuple, stored or not, for who goes over another list beside it.
 //!
 //! [`Chains::touch`] gives the changelog touch by touch, to who keeps an index of it.
 //!

@@ -1,8 +1,8 @@
 //! The users of a userset.
 
-ghost use Rattle.std.specs.Prelude.{◌≡◌, ◌&&◌, true, false};
+ghost use Rattle.std.specs.Prelude.{◌≡◌, ◌&&◌, [], None, true, false, IfSome, option_map};
 ghost use Rattle.std.specs.Iterator.{YieldsFirstBy, item_count};
-ghost use Rattle.std.specs.List.{list_any, IsDistinct};
+ghost use Rattle.std.specs.List.{list_any, cons_option, IsDistinct};
 ghost use Rattle.tuple_text.specs.Order.{user_eq};
 ghost use Rattle.tuple_text.specs.Refs.{set_value, user_value};
 ghost use Rattle.tuple_text.specs.Sets.{SetValue, set_eq};
@@ -75,6 +75,30 @@ impl<'a> Iterator for OfKind<'a> {
 }
 
 impl<'a> OfKind<'a> {
+    /// Looks at one tuple more of the userset and the kind, and gives its user where it is stored at the timestamp.
+    /// `None` where there is no other.
+    fn step(&mut self) -> Option<Option<MarkedUser<'a>>>
+        ensures none { result ≡ None → (self.old ≡ []) × (self.new ≡ []) }
+        ensures some { IfSome result (λ found. self.old
+            ≡ cons_option (option_map (λ u. user_value u.user) found) self.new) }
+    {
+        if self.place == 0 {
+            return None;
+        }
+        let number = self.place - 1;
+        self.place = self.arena.sibling(number);
+        match self
+            .arena
+            .given(number, self.set, self.like, self.usersets, self.at)
+        {
+            Some(user) => {
+                self.like = Some(number);
+                Some(Some(user))
+            }
+            None => Some(None),
+        }
+    }
+
     /// The users of the kind that the arena gives at the timestamp.
     fn over(arena: &'a Arena, set: MarkedSet<'a>, usersets: bool, at: u64) -> OfKind<'a>
         ensures distinct { IsDistinct user_eq result }
@@ -181,6 +205,25 @@ impl<'a> Iterator for Usersets<'a> {
 }
 
 impl<'a> Usersets<'a> {
+    /// Looks at one tuple more that was ever stored, and gives its userset where it is stored at the timestamp: `next`
+    /// passes over all that are not. `None` where there is no other.
+    pub fn step(&mut self) -> Option<Option<MarkedSet<'a>>>
+        ensures none { result ≡ None → (self.old ≡ []) × (self.new ≡ []) }
+        ensures some { IfSome result (λ found. self.old
+            ≡ cons_option (option_map (λ g. set_value g.set) found) self.new) }
+    {
+        match self.users.step()? {
+            Some(next) => match next.user {
+                UserRef::Set(set) => Some(Some(MarkedSet {
+                    set,
+                    mark: next.mark,
+                })),
+                UserRef::Id(_) => Some(None),
+            },
+            None => Some(None),
+        }
+    }
+
     /// The usersets that the arena gives at the timestamp.
     pub(crate) fn over(arena: &'a Arena, set: MarkedSet<'a>, at: u64) -> Usersets<'a>
         ensures distinct { IsDistinct set_eq result }
