@@ -6,7 +6,7 @@ ghost use Rattle.std.specs.List.Sorted.{IsStrictlyIncreasing};
 ghost use Rattle.namespaces.specs.Lookup.{rule_at};
 ghost use Rattle.version_chains.specs.Commits.{store_at};
 ghost use Rattle.strata.specs.Strata.{HasValidStrata};
-ghost use Rattle.trace_lines.specs.Placed.{HasPlacedCommits};
+ghost use Rattle.trace_lines.specs.Placed.{AreInPlace, HasPlacedCommits};
 ghost use Rattle.trace_lines.specs.Traces.{trace_of};
 ghost use Rattle.trace_lines.specs.Values.{TraceValue, entry_lines};
 ghost use Rattle.trace_lines.specs.Versions.{AreIssuedOnce};
@@ -32,6 +32,14 @@ pub fn versions_issued_once(trace: &Trace)
     ensures { AreIssuedOnce trace.now.entries }
 {
     let _ = trace.recorded();
+}
+
+/// Each commit has its line, lines and timestamps rise, and each entry stands behind the commits before it.
+pub fn stand_in_order(trace: &Trace)
+    ensures { AreInPlace trace.now }
+{
+    let _ = trace.recorded();
+    let _ = trace.chains().commits();
 }
 
 /// In the trace that some bytes say, strata are valid at each timestamp, over what is stored then.

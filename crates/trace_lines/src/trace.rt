@@ -7,6 +7,7 @@ ghost use Rattle.version_chains.specs.Commits.{store_at};
 ghost use Rattle.strata.specs.Strata.{HasValidStrata};
 ghost use Rattle.trace_lines.specs.Timelines.{timeline_of};
 ghost use Rattle.trace_lines.specs.EntryViews.{entry_value};
+ghost use Rattle.trace_lines.specs.Kept.{IsPlaced};
 ghost use Rattle.trace_lines.specs.Values.{entry_lines};
 ghost use Rattle.trace_lines.specs.Versions.{content_of, AreIssuedOnce};
 
@@ -134,7 +135,10 @@ impl Trace {
 
     /// The entries, of which at most one issued a version of an object.
     pub(crate) fn recorded(&self) -> &Entries
-        ensures { AreIssuedOnce self.now.entries }
+        ensures once { AreIssuedOnce self.now.entries }
+        ensures lines { IsStrictlyIncreasing self.now.commit_lines }
+        ensures counted { length self.now.commit_lines ≡ length self.now.commits }
+        ensures placed { All (IsPlaced self.now.commit_lines) self.now.entries }
     {
         &self.recorded
     }

@@ -1,0 +1,5 @@
+pub mod CommitLemmas
+pub mod GrowthLemmas
+pub mod StandingLemmas
+pub mod TellingLemmas
+pub mod WaitingLemmas

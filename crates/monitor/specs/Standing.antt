@@ -1,0 +1,50 @@
+-- Where a monitor stands between two lines of a trace.
+use Rattle.std.specs.Prelude.{◌≡◌, ℕ, ◌<◌, ◌≤◌, List, All, length, map, get_or, slice_get, Contains, Some}
+use Rattle.version_chains.specs.Commits.{Commit}
+use Rattle.trace_lines.specs.Values.{EntryValue, TraceValue}
+use Rattle.monitor.specs.declared.monitor.Monitor.{Monitor}
+
+-- the timestamp of commit c, and its line
+abbrev pub time_of : TraceValue → ℕ → ℕ
+time_of t c = get_or (map (λ (x : Commit). x.at) t.commits) c 0
+
+abbrev pub line_of : TraceValue → ℕ → ℕ
+line_of t c = get_or t.commit_lines c 0
+
+-- some of the first n commits is at or above the timestamp
+abbrev pub IsReached : TraceValue → ℕ → ℕ → Type 0
+IsReached t n s = (c : ℕ) × (c < n) × (s ≤ time_of t c)
+
+-- Taken were the first entries and the first commits, so many as it says. Of the entries those from `fresh` on stand
+-- behind the last of these commits, and those wait whose snapshots none of these commits reaches.
+pub record Stands (t : TraceValue) (m : Monitor) : Type 0 where
+  pub entries : m.entries ≤ length t.entries
+  pub commits : m.commits ≤ length t.commits
+  pub fresh : m.fresh ≤ m.entries
+  pub earlier : (i : ℕ) (e : EntryValue) → slice_get t.entries i ≡ Some e → i < m.fresh → e.before < m.commits
+  pub last : (i : ℕ) (e : EntryValue) → slice_get t.entries i ≡ Some e → m.fresh ≤ i → i < m.entries
+      → e.before ≡ m.commits
+  pub behind : (i : ℕ) (e : EntryValue) → slice_get t.entries i ≡ Some e → m.entries ≤ i → m.commits ≤ e.before
+  pub waits : (i : ℕ) (e : EntryValue) → slice_get t.entries i ≡ Some e → i < m.entries
+      → ¬ IsReached t m.commits e.snapshot → Contains m.waiting.keys (e.snapshot, i)
+  pub waiting : (s i : ℕ) → Contains m.waiting.keys (s, i) → (e : EntryValue) × (slice_get t.entries i ≡ Some e)
+      × (i < m.entries) × (e.snapshot ≡ s) × ¬ IsReached t m.commits s
+
+-- the next line is that of the next entry
+pub record IsEntryNext (t : TraceValue) (m : Monitor) (e : EntryValue) : Type 0 where
+  pub there : slice_get t.entries m.entries ≡ Some e
+  pub before : e.before ≤ m.commits
+
+-- the next line is that of the next commit
+pub record IsCommitNext (t : TraceValue) (m : Monitor) : Type 0 where
+  pub there : m.commits < length t.commits
+  pub behind : (i : ℕ) (e : EntryValue) → slice_get t.entries i ≡ Some e → m.entries ≤ i → m.commits < e.before
+
+-- all entries and all commits were taken
+pub record IsAtEnd (t : TraceValue) (m : Monitor) : Type 0 where
+  pub entries : m.entries ≡ length t.entries
+  pub commits : m.commits ≡ length t.commits
+
+-- entries of these numbers stand on lines before that of commit c
+abbrev pub StandBefore : TraceValue → ℕ → List ℕ → Type 0
+StandBefore t c is = All (λ i. (e : EntryValue) × (slice_get t.entries i ≡ Some e) × (e.before ≤ c)) is
