@@ -58,6 +58,7 @@ KIND is one of
   chosen_namespaces  the same, and the names of the namespaces have one hash
   chosen_users   such namespaces, and stored usersets of others with that hash, which nobody declares
   beyond_first   usersets that were added and removed again, and a user of 70 groups, who is let in by the last of 250 relations
+  known_folders  a user of as many folders as each of many objects stores others, who is let in by the last of 250 relations
   live_grid      objects that all store the same groups, 250 relations that each read a member of these, and users who are in none
   known_grid     the same, and a user of the group that was stored first, and of as many others that are stored nowhere
   known_through  as `wide_users`, with many documents, and one user who is known to be in many groups
@@ -808,6 +809,23 @@ def beyond_first(size):
     return given
 
 
+def known_folders(size):
+    """The folder that lets the user in was known first, and stored first in each object, and its relation is read last."""
+    names = [f"r{k}" for k in range(250)]
+    rule = nested([{"tuple_to": {"tupleset": "p", "computed": name}} for name in names])
+    given = Input(size, [{"name": "d", "relations": [relation("p"), relation("v", rule)]}, {"name": "f", "relations": list(map(relation, names))}])
+    given.bytes = sum(map(len, given.lines))
+    count = int((size / 3) ** 0.5)
+    known = [f"f:0#{names[-1]}@1", *(f"f:{k}#{names[k % 249]}@1" for k in range(1, count))]
+    given.commit(known)
+    objects = range(max(int(size) // 90 // count, 1))
+    for one in objects:
+        given.commit([f"d:{one}#p@f:0#...", *(f"d:{one}#p@f:x{k}#..." for k in range(count))])
+    while not given.is_full():
+        given.check("d:0#v@1", True, [{"yes": fact} for fact in [*known, *(f"d:{one}#v@1" for one in objects)]])
+    return given
+
+
 def grid(size):
     """Objects that each store the same groups, and relations that each read a member of these: as many groups as relations of all objects."""
     objects = max(round((size / 3 / 250 / 22) ** 0.5), 1)
@@ -1199,6 +1217,7 @@ KINDS = {
     "chosen_namespaces": lambda size: many_namespaces(size, of_one_hash(254)),
     "chosen_users": chosen_users,
     "beyond_first": beyond_first,
+    "known_folders": known_folders,
     "live_grid": live_grid,
     "known_grid": known_grid,
     "known_through": known_through,

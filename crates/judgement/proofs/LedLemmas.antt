@@ -13,7 +13,7 @@ use Rattle.marks.specs.Placed.{IsLinkedPlace, last_place, newest_first, passes}
 use Rattle.marks.proofs.PlacedLemmas.{at_last_place, given_at, given_from, last_place-map, newest_first-here, newest_first-through}
 use Rattle.judgement.specs.Facts.{is_of_user, sets_before, sets_of_user, user_of}
 use Rattle.judgement.specs.Judgement.{KnownValue}
-use Rattle.judgement.specs.Passes.{IsLed, IsLedByName, IsObjectStored, IsTargetStored, LeadsByName, SomeSet, target}
+use Rattle.judgement.specs.Passes.{IsLed, IsObjectStored, IsTargetStored, SomeSet, target}
 use Rattle.judgement.proofs.PassLemmas.{some_from, some_given}
 
 any_map : {X Y : Type 0} (f : X → Y) (p : Y → Bool) (xs : List X) → list_any p (map f xs) ≡ list_any (λ x. p (f x)) xs
@@ -59,7 +59,7 @@ module _ (user : ℕ) (fs : List FactValue) (place : ℕ) (on : IsLinkedPlace (i
 
 -- what is known to hold of a user, by the usersets of his facts
 module _ (yes : List FactValue) (user : ℕ) where
-  known_by_sets : (g : SetValue) → list_any (set_eq g) (sets_of_user user yes) ≡ true → Contains yes (fact_of g user)
+  pub known_by_sets : (g : SetValue) → list_any (set_eq g) (sets_of_user user yes) ≡ true → Contains yes (fact_of g user)
   known_by_sets g h =
       let w = given_at (is_of_user user) (λ f. set_eq g f.set) yes (length yes) (sym (any_map (λ (f : FactValue). f.set) (set_eq g) (newest_first (is_of_user user) yes (length yes))) ∙ h) in
       let same_set : g ≡ w.1.set = set_eq-same g w.1.set w.5 in
@@ -68,7 +68,7 @@ module _ (yes : List FactValue) (user : ℕ) where
       let here : slice_get yes w.0 ≡ Some (fact_of g user) = w.3 ∙ ap (λ (f : FactValue). Some f) is in
       (w.0, slice_get_within yes w.0 (fact_of g user) here, get_or_from_slice_get yes w.0 (fact_of g user) (fact_of g user) here)
 
-  sets_by_known : (g : SetValue) → Contains yes (fact_of g user) → list_any (set_eq g) (sets_of_user user yes) ≡ true
+  pub sets_by_known : (g : SetValue) → Contains yes (fact_of g user) → list_any (set_eq g) (sets_of_user user yes) ≡ true
   sets_by_known g c =
       let here : slice_get yes c.0 ≡ Some (fact_of g user) = slice_get_read yes (length yes) c.0 (fact_of g user) refl c.1 (sym c.2) in
       any_map (λ (f : FactValue). f.set) (set_eq g) (newest_first (is_of_user user) yes (length yes))
@@ -84,16 +84,6 @@ led_by_targets store known set relation user = (
   λ l.
       some_from (IsTargetStored store set relation) (sets_of_user user known.yes) (target l.0 relation)
       (sets_by_known known.yes user (target l.0 relation) l.2) (l.0, l.1, refl),
-)
-
--- what leads by a name leads by that of a known fact of the user
-pub led_by_known_names : (store : List TupleValue) (known : KnownValue) (set : SetValue) (names : List (List ℕ)) (user : ℕ)
-    → SomeSet (LeadsByName store known set names user) (sets_of_user user known.yes) ↔ IsLedByName store known set names user
-led_by_known_names store known set names user = (
-  λ h. let w = some_given (LeadsByName store known set names user) (sets_of_user user known.yes) h in (w.0.relation, w.2.0, w.2.1),
-  λ l.
-      some_from (LeadsByName store known set names user) (sets_of_user user known.yes) (target l.2.0 (Some l.0))
-      (sets_by_known known.yes user (target l.2.0 (Some l.0)) l.2.2) (l.1, l.2),
 )
 
 -- what is left of some usersets decides where the first does not
@@ -112,7 +102,7 @@ target_itself store set t b is = (
 )
 
 -- a userset's object under a relation is a target where it has that relation, and a userset of its object is stored
-target_by_object : (store : List TupleValue) (set t : SetValue) (relation : List ℕ)
+pub target_by_object : (store : List TupleValue) (set t : SetValue) (relation : List ℕ)
     → t.relation ≡ relation → IsObjectStored store set t → IsTargetStored store set (Some relation) t
 target_by_object store set t relation same o =
     (o.0, o.1, λ i. record { namespace = o.2.0 i; id = o.2.1 i; relation = sym same i })
@@ -122,13 +112,16 @@ object_by_target : (store : List TupleValue) (set t : SetValue) (relation : List
 object_by_target store set t relation h =
     (sym (ap (λ (g : SetValue). g.relation) h.2), (h.0, h.1, (ap (λ (g : SetValue). g.namespace) h.2, ap (λ (g : SetValue). g.id) h.2)))
 
-pub target_by_test : (store : List TupleValue) (set t : SetValue) (relation : List ℕ) (b : Bool) → t.relation ≡ relation
-    → (b ≡ true → IsObjectStored store set t) → (b ≡ false → ¬ IsObjectStored store set t) → IsTrue b ↔ IsTargetStored store set (Some relation) t
-target_by_test store set t relation true same is none = (λ _. target_by_object store set t relation same (is refl), λ _. refl)
-target_by_test store set t relation false same is none = (
-  λ h. absurd (let bad : false ≡ true = h in cc),
-  λ w. absurd (none refl (object_by_target store set t relation w).1),
+pub target_by_stored_object : (store : List TupleValue) (set t : SetValue) (relation : List ℕ) (b : Bool) → t.relation ≡ relation
+    → (IsTrue b ↔ IsObjectStored store set t) → IsTrue b ↔ IsTargetStored store set (Some relation) t
+target_by_stored_object store set t relation b same is = (
+  λ h. target_by_object store set t relation same (is.0 h),
+  λ w. is.1 (object_by_target store set t relation w).1,
 )
+
+pub decided : (P : Type 0) (b : Bool) → (b ≡ true → P) → (b ≡ false → ¬ P) → IsTrue b ↔ P
+decided P true is none = (λ _. is refl, λ _. refl)
+decided P false is none = (λ h. absurd (let bad : false ≡ true = h in cc), λ p. absurd (none refl p))
 
 -- either of two lists shows it, and either shows that it is not so
 pub led_by_either : (S T L : Type 0) (b : Bool) → (S ↔ L) → (T ↔ L) → (b ≡ true → S ⊎ T) → (b ≡ false → (¬ S) ⊎ (¬ T)) → IsTrue b ↔ L

@@ -95,11 +95,14 @@ module _ (commits : List Commit) (at : ℕ) (set : SetValue) (gs : List SetValue
   pub each_by_sets : (P : SetValue → Type 0) → EachSet P gs ↔ ((g : SetValue) → Contains (store_at commits at) (tuple_of set (Set g)) → P g)
   each_by_sets P = (λ h. λ g c. each_at P gs h g (there g c), λ b. each_from P gs (λ g h. b g (stored g h)))
 
-  pub led_by_sets : SomeSet (GivesId known relation id) gs ↔ IsLed (store_at commits at) known set relation id
-  led_by_sets = (
-    λ h. let w = some_given (GivesId known relation id) gs h in (w.0, stored w.0 w.1, w.2),
-    λ l. some_from (GivesId known relation id) gs l.0 (there l.0 l.1) l.2,
+  pub some_by_sets : (P : SetValue → Type 0) → SomeSet P gs ↔ (g : SetValue) × Contains (store_at commits at) (tuple_of set (Set g)) × P g
+  some_by_sets P = (
+    λ h. let w = some_given P gs h in (w.0, stored w.0 w.1, w.2),
+    λ l. some_from P gs l.0 (there l.0 l.1) l.2,
   )
+
+  pub led_by_sets : SomeSet (GivesId known relation id) gs ↔ IsLed (store_at commits at) known set relation id
+  led_by_sets = some_by_sets (GivesId known relation id)
 
   pub barred_by_sets : (rules : Lookup) → EachSet (BarsId rules known relation id) gs ↔ IsBarred rules (store_at commits at) known set relation id
   barred_by_sets rules = (

@@ -54,10 +54,6 @@ BarsNames rules known names id g = (c : List ℕ) → Contains names c → BarsI
 abbrev pub IsLedByName : List TupleValue → KnownValue → SetValue → List (List ℕ) → ℕ → Type 0
 IsLedByName store known set names id = (c : List ℕ) × Contains names c × IsLed store known set (Some c) id
 
--- that is so by the relation of this userset
-abbrev pub LeadsByName : List TupleValue → KnownValue → SetValue → List (List ℕ) → ℕ → SetValue → Type 0
-LeadsByName store known set names id t = Contains names t.relation × IsLed store known set (Some t.relation) id
-
 -- none has one that may hold it
 abbrev pub AreBarred : Lookup → List TupleValue → KnownValue → SetValue → List (List ℕ) → ℕ → Type 0
 AreBarred rules store known set names id = (c : List ℕ) → Contains names c → IsBarred rules store known set (Some c) id

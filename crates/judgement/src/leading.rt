@@ -1,15 +1,15 @@
-//! Whether a fact holds through a userset that is stored in a crowded one.
+//! Whether a fact holds through a userset that is stored in its own.
 
-ghost use Rattle.std.specs.Prelude.{◌≡◌, ◌↔◌, ◌⊎◌, IsTrue, true, false, All, None, IfSome, option_map};
+ghost use Rattle.std.specs.Prelude.{◌≡◌, ◌↔◌, ◌⊎◌, IsTrue, true, false, All, option_map};
 ghost use Rattle.tuple_text.specs.Refs.{set_value};
 ghost use Rattle.snapshots.specs.Snapshots.{tuples_in};
 ghost use Rattle.judgement.specs.AskedFact.{GivesFor, IsLedFor, asked_set, tuples_over};
-ghost use Rattle.judgement.specs.Passes.{IsCrowd, IsObjectStored, IsTargetStored, IsTouchApart, SomeSet};
+ghost use Rattle.judgement.specs.Passes.{AreOfOneObject, IsCrowd, IsObjectStored, IsTargetStored, IsTouchApart, SomeSet};
 
 use crate::asked::AskedFact;
 use crate::fact::KnownFact;
 use crate::facts::SetsOfUser;
-use crate::stored::is_in;
+use crate::stored::{crowd_of, is_in};
 use marks::MarkedSet;
 use snapshots::Snapshot;
 use tuple_text::{SetRef, UserRef};
@@ -65,79 +65,70 @@ fn is_one_of_object(
     false
 }
 
-/// Whether some userset that is stored in a crowded set has this target: the userset itself, or its object under a
-/// relation.
-fn is_target_stored(
+/// Whether some userset that is stored in a crowded set is of the object of another.
+fn is_object_in_crowd(
     snapshot: &Snapshot<'_>,
     index: &UsersetIndex,
     set: MarkedSet<'_>,
+    other: SetRef<'_>,
+) -> bool
+    requires { IsCrowd snapshot.now (set_value set.set) index.now }
+    ensures { IsTrue result
+        ↔ IsObjectStored (tuples_in snapshot.now) (set_value set.entry.set) (set_value other.entry) }
+{
+    snapshot.fits();
+    let touches = index.of_object(set, other, snapshot.at);
+    is_one_of_object(snapshot, set, other, touches)
+}
+
+/// Whether two usersets are of one object.
+fn are_of_one_object(one: SetRef<'_>, other: SetRef<'_>) -> bool
+    ensures { IsTrue result ↔ AreOfOneObject (set_value one.entry) (set_value other.entry) }
+{
+    one.namespace == other.namespace && one.id == other.id
+}
+
+/// Whether some userset that is stored in a fact's userset is of the object of another.
+pub fn stores_object<F: KnownFact>(fact: &AskedFact<'_, F>, other: SetRef<'_>) -> bool
+    ensures { IsTrue result ↔ IsObjectStored (tuples_over fact.now) (asked_set fact.now) (set_value other.entry) }
+{
+    if let Some(index) = crowd_of(fact) {
+        return is_object_in_crowd(fact.snapshot, index, fact.set, other);
+    }
+    // of a set that is not crowded that is little
+    for stored in fact.snapshot.usersets(fact.set) {
+        if are_of_one_object(stored.set, other) {
+            return true;
+        }
+    }
+    false
+}
+
+/// Whether some userset that is stored in a fact's userset has this target: the userset itself, or its object under a
+/// relation.
+fn is_target_stored<F: KnownFact>(
+    fact: &AskedFact<'_, F>,
     relation: Option<&str>,
     target: MarkedSet<'_>,
 ) -> bool
-    requires { IsCrowd snapshot.now (set_value set.set) index.now }
-    ensures { IsTrue result ↔ IsTargetStored (tuples_in snapshot.now) (set_value set.entry.set)
+    ensures { IsTrue result ↔ IsTargetStored (tuples_over fact.now) (asked_set fact.now)
         (option_map (λ s. s.now) relation.entry) (set_value target.entry.set) }
 {
     match relation {
-        None => snapshot.has_set(set, target),
-        Some(relation) => {
-            target.set.relation == relation
-                && is_one_of_object(
-                    snapshot,
-                    set,
-                    target.set,
-                    index.of_object(set, target.set, snapshot.at),
-                )
-        }
+        None => fact.snapshot.has_set(fact.set, target),
+        Some(relation) => target.set.relation == relation && stores_object(fact, target.set),
     }
-}
-
-/// For how many usersets of which a user is known it is asked first whether they are stored. What is stored is gone
-/// over only then, since a step there passes over all that is dead.
-const FIRST: usize = 64;
-
-/// Whether one of some usersets is the target of what is stored in a crowded set. `None` where that does not show of
-/// the first few, which are given by then.
-fn is_first_stored<F: KnownFact>(
-    snapshot: &Snapshot<'_>,
-    index: &UsersetIndex,
-    set: MarkedSet<'_>,
-    relation: Option<&str>,
-    targets: &mut SetsOfUser<'_, F>,
-) -> Option<bool>
-    requires { IsCrowd snapshot.now (set_value set.set) index.now }
-    ensures some { IfSome result (λ b. IsTrue b
-        ↔ SomeSet (IsTargetStored (tuples_in snapshot.now) (set_value set.entry.set)
-        (option_map (λ s. s.now) relation.entry)) targets.old) }
-    ensures none { result ≡ None → (SomeSet (IsTargetStored (tuples_in snapshot.now) (set_value set.entry.set)
-        (option_map (λ s. s.now) relation.entry)) targets.new
-        ↔ SomeSet (IsTargetStored (tuples_in snapshot.now) (set_value set.entry.set)
-        (option_map (λ s. s.now) relation.entry)) targets.old) }
-{
-    for _ in 0..FIRST {
-        match targets.next() {
-            Some(target) => {
-                if is_target_stored(snapshot, index, set, relation, target) {
-                    return Some(true);
-                }
-            }
-            None => return Some(false),
-        }
-    }
-    None
 }
 
 /// Whether one of some usersets has a target that is known to hold a user, or one of some others is the target of what
-/// is stored in a crowded set. It goes over both lists side by side, so it takes no more steps than the shorter has
-/// items.
+/// is stored in a fact's userset. It goes over both lists side by side, one tuple of the userset at a time, so it takes
+/// no more steps than tuples of usersets were ever stored there, nor than there are others.
 fn leads_either<F: KnownFact>(
     fact: &AskedFact<'_, F>,
-    index: &UsersetIndex,
     relation: Option<&str>,
     stored: Usersets<'_>,
     targets: SetsOfUser<'_, F>,
 ) -> bool
-    requires { IsCrowd fact.now.snapshot.now (asked_set fact.now) index.now }
     ensures leads { result ≡ true → SomeSet (GivesFor fact.now (option_map (λ s. s.now) relation.entry)) stored.entry
         ⊎ SomeSet (IsTargetStored (tuples_over fact.now) (asked_set fact.now)
         (option_map (λ s. s.now) relation.entry)) targets.entry }
@@ -146,36 +137,27 @@ fn leads_either<F: KnownFact>(
         ⊎ (¬ SomeSet (IsTargetStored (tuples_over fact.now) (asked_set fact.now)
         (option_map (λ s. s.now) relation.entry)) targets.entry) }
 {
-    let mut targets = targets;
-    for one in stored {
-        if is_in(fact, one, relation) {
+    let mut stored = stored;
+    for target in targets {
+        if is_target_stored(fact, relation, target) {
             return true;
         }
-        match targets.next() {
-            Some(target) => {
-                if is_target_stored(fact.snapshot, index, fact.set, relation, target) {
-                    return true;
-                }
+        let Some(step) = stored.step() else {
+            return false;
+        };
+        if let Some(one) = step {
+            if is_in(fact, one, relation) {
+                return true;
             }
-            None => return false,
         }
     }
     false
 }
 
-/// Whether some userset that is stored in a crowded set has a target that is known to hold a user.
-pub(crate) fn is_led_by_index<F: KnownFact>(
-    fact: &AskedFact<'_, F>,
-    index: &UsersetIndex,
-    relation: Option<&str>,
-) -> bool
-    requires { IsCrowd fact.now.snapshot.now (asked_set fact.now) index.now }
+/// Whether some userset that is stored in a fact's userset has a target that is known to hold the user.
+pub(crate) fn is_led<F: KnownFact>(fact: &AskedFact<'_, F>, relation: Option<&str>) -> bool
     ensures { IsTrue result ↔ IsLedFor fact.now (option_map (λ s. s.now) relation.entry) }
 {
-    let mut targets = fact.known.sets_of(fact.user);
-    if let Some(is_led) = is_first_stored(fact.snapshot, index, fact.set, relation, &mut targets) {
-        return is_led;
-    }
     let stored = fact.snapshot.usersets(fact.set);
-    leads_either(fact, index, relation, stored, targets)
+    leads_either(fact, relation, stored, fact.known.sets_of(fact.user))
 }

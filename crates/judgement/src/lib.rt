@@ -13,8 +13,8 @@
 //!
 //! What a call costs is no promise. A look-up among known facts goes by their marks. What is stored in a userset with
 //! many usersets is passed over by the trace's index of them, so that those that are dead or undeclared then are not
-//! looked at; and whether one of them leads to a known fact is found from the shorter of two lists, the stored usersets
-//! and the user's known facts.
+//! looked at; and whether one of them leads to a known fact is found from the shorter of two lists, the usersets that
+//! were ever stored there and the user's known facts.
 //!
 //! ```text
 //! known.add_yes(fact)?;
@@ -44,5 +44,6 @@ pub use fact::{KnownFact, MarkedFact};
 pub use facts::SetsOfUser;
 pub use indexed::{are_out, is_number_out};
 pub use known::Known;
-pub use stored::{crowd_of, is_barred, is_led, is_out, under};
+pub use leading::stores_object;
+pub use stored::{crowd_of, is_barred, is_in, is_out, under};
 pub use table::{established, refuted};

@@ -3,13 +3,12 @@
 ghost use Rattle.std.specs.Prelude.{◌≡◌, ◌↔◌, IfSome, IsTrue, option_map};
 ghost use Rattle.tuple_text.specs.Refs.{set_value};
 ghost use Rattle.strata.specs.Meaning.{with_relation};
-ghost use Rattle.judgement.specs.AskedFact.{BarsFor, GivesFor, IsBarredFor, IsLedFor, asked_set};
+ghost use Rattle.judgement.specs.AskedFact.{BarsFor, GivesFor, IsBarredFor, asked_set};
 ghost use Rattle.judgement.specs.Passes.{EachSet, IsCrowd};
 
 use crate::asked::AskedFact;
 use crate::fact::KnownFact;
 use crate::indexed::{are_out, are_out_through};
-use crate::leading::is_led_by_index;
 use marks::MarkedSet;
 use tuple_text::SetRef;
 use userset_index::UsersetIndex;
@@ -23,7 +22,7 @@ pub fn under<'a>(set: SetRef<'a>, relation: &'a str) -> SetRef<'a>
 }
 
 /// Whether the target of a userset is known to hold a user: the userset itself, or its object under a relation.
-pub(crate) fn is_in<F: KnownFact>(
+pub fn is_in<F: KnownFact>(
     fact: &AskedFact<'_, F>,
     set: MarkedSet<'_>,
     relation: Option<&str>,
@@ -80,22 +79,7 @@ pub fn crowd_of<'a, F: KnownFact>(fact: &AskedFact<'a, F>) -> Option<&'a Userset
     }
 }
 
-/// Whether some userset that is stored in a fact's userset has a target that is known to hold the user.
-pub fn is_led<F: KnownFact>(fact: &AskedFact<'_, F>, relation: Option<&str>) -> bool
-    ensures { IsTrue result ↔ IsLedFor fact.now (option_map (λ s. s.now) relation.entry) }
-{
-    if let Some(index) = crowd_of(fact) {
-        return is_led_by_index(fact, index, relation);
-    }
-    for set in fact.snapshot.usersets(fact.set) {
-        if is_in(fact, set, relation) {
-            return true;
-        }
-    }
-    false
-}
-
-/// Whether none has a target that may hold it.
+/// Whether no userset that is stored in a fact's userset has a target that may hold the user.
 pub fn is_barred<F: KnownFact>(fact: &AskedFact<'_, F>, relation: Option<&str>) -> bool
     ensures { IsTrue result ↔ IsBarredFor fact.now (option_map (λ s. s.now) relation.entry) }
 {

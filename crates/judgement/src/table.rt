@@ -7,7 +7,8 @@ ghost use Rattle.judgement.specs.Judgement.{Established, Refuted};
 
 use crate::asked::AskedFact;
 use crate::fact::KnownFact;
-use crate::stored::{is_barred, is_led, under};
+use crate::leading::is_led;
+use crate::stored::{is_barred, under};
 use marks::MarkedSet;
 use rewrites::Rewrite;
 

@@ -1,8 +1,8 @@
 -- What is read through one tupleset.
-use Rattle.std.proofs.Common.{◌≡◌, ℕ, zero, suc, List, [], ◌∷◌, None, Some, ◌↔◌, true, false, refl, inl, inr, map, arith, String, Global}
+use Rattle.std.proofs.Common.{◌≡◌, ℕ, zero, suc, List, [], ◌∷◌, None, Some, ◌↔◌, true, false, refl, sym, subst, inl, inr, map, arith, String, Global}
 use Rattle.std.specs.Prelude.{Contains, string_bytes}
 use Rattle.tuple_text.specs.Sets.{SetValue}
-use Rattle.tuple_text.specs.Tuples.{TupleValue, FactValue}
+use Rattle.tuple_text.specs.Tuples.{TupleValue, FactValue, fact_of}
 use Rattle.namespaces.specs.Declaration.{Declaration}
 use Rattle.rewrites.specs.Expression.{Expression, tuple_to, children}
 use Rattle.namespaces.specs.InForce.{names_in_force}
@@ -12,9 +12,12 @@ use Rattle.rewrites.specs.declared.parts.Through.{Through}
 use Rattle.strata.specs.Meaning.{with_relation}
 use Rattle.judgement.specs.Decided.{dec_undeclared}
 use Rattle.judgement.specs.Judgement.{KnownValue, SomeEstablished, EachRefuted}
-use Rattle.judgement.specs.Passes.{AreBarred, BarsId, BarsNames, IsLedByName, IsLed, target}
+use Rattle.judgement.specs.Passes.{AreBarred, BarsId, BarsNames, IsLedByName, IsLed, SomeSet, target}
 use Rattle.judgement.specs.AskedFact.{asked_fact, asked_set, rules_over, tuples_over}
-use Rattle.wide_rules.specs.AskedFact.{DoesFor}
+use Rattle.judgement.specs.Facts.{sets_of_user}
+use Rattle.judgement.proofs.LedLemmas.{known_by_sets, sets_by_known, target_by_object}
+use Rattle.judgement.proofs.PassLemmas.{some_from, some_given}
+use Rattle.wide_rules.specs.AskedFact.{DoesFor, IsLedBy, LeadsUnder}
 use Rattle.judgement.specs.declared.asked.AskedFact.{AskedFact}
 
 -- ---- the relations of a userset's namespace are enough to look at
@@ -28,6 +31,19 @@ names_enough ds at known names id g whole each c named = by (dec_undeclared (rul
     by : Dec (rule_of (rule_at ds at) (target g (Some c)) ≡ None) → BarsId (rule_at ds at) known (Some c) id g
     by (yes none) = inl none
     by (no declared) = each c (whole c declared) named
+
+-- ---- some userset that gives under some name
+
+module _ (P : List ℕ → SetValue → Type 0) (names : List (List ℕ)) where
+  pub name_of_some : (gs : List SetValue) → SomeSet (λ g. (c : List ℕ) × Contains names c × P c g) gs → (c : List ℕ) × Contains names c × SomeSet (P c) gs
+  name_of_some [] h = absurd h
+  name_of_some (g ∷ gs) (inl w) = (w.0, w.1, inl w.2)
+  name_of_some (g ∷ gs) (inr h) = let w = name_of_some gs h in (w.0, w.1, inr w.2)
+
+  pub some_of_name : (gs : List SetValue) (c : List ℕ) → Contains names c → SomeSet (P c) gs → SomeSet (λ g. (c : List ℕ) × Contains names c × P c g) gs
+  some_of_name [] c there h = absurd h
+  some_of_name (g ∷ gs) c there (inl p) = inl (c, there, p)
+  some_of_name (g ∷ gs) c there (inr h) = inr (some_of_name gs c there h)
 
 -- ---- a union of what each relation gives
 
@@ -63,6 +79,19 @@ module _ (rules : Lookup) (store : List TupleValue) (known : KnownValue) (f : Fa
     h (string_bytes e.0) (0, omega arith, refl),
     barred_each es (λ c there. h c (suc there.0, omega (arith, there.1), there.2)),
   )
+
+-- what leads by a name leads by that of a known fact of the user
+pub led_by_targets : {F : Type 0} (a : AskedFact F) (names : List (List ℕ))
+    → SomeSet (LeadsUnder a names) (sets_of_user a.user a.known.now.yes) ↔ IsLedBy a names
+led_by_targets a names = (
+  λ h.
+      let w = some_given (LeadsUnder a names) (sets_of_user a.user a.known.now.yes) h in
+      let t = target_by_object (tuples_over a) (asked_set a) w.0 w.0.relation refl w.2.1 in
+      (w.0.relation, w.2.0, (t.0, t.1, subst (λ (u : SetValue). Contains a.known.now.yes (fact_of u a.user)) (sym t.2) (known_by_sets a.known.now.yes a.user w.0 w.1))),
+  λ l.
+      some_from (LeadsUnder a names) (sets_of_user a.user a.known.now.yes) (target l.2.0 (Some l.0))
+      (sets_by_known a.known.now.yes a.user (target l.2.0 (Some l.0)) l.2.2) (l.1, (l.2.0, l.2.1, (refl, refl))),
+)
 
 -- a fact is asked for by what is stored in the tupleset of its object
 module _ {F : Type 0} (a : AskedFact F) (t : Through) (set : SetValue)

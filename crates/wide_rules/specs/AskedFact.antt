@@ -1,9 +1,9 @@
 -- What a rule and its parts say of a fact that they are asked for. No public clause cites this module.
-use Rattle.std.specs.Prelude.{ℕ, List, Bool, ◌↔◌, IsTrue, Contains}
+use Rattle.std.specs.Prelude.{ℕ, List, Bool, Some, ◌↔◌, IsTrue, Contains}
 use Rattle.tuple_text.specs.Sets.{SetValue}
 use Rattle.rewrites.specs.Expression.{Expression}
-use Rattle.judgement.specs.AskedFact.{asked_fact, asked_set, rules_over, tuples_over}
-use Rattle.judgement.specs.Passes.{AreBarred, BarsNames, IsLedByName, LeadsByName}
+use Rattle.judgement.specs.AskedFact.{GivesFor, asked_fact, asked_set, rules_over, tuples_over}
+use Rattle.judgement.specs.Passes.{AreBarred, BarsNames, IsLedByName, IsObjectStored}
 use Rattle.judgement.specs.declared.asked.AskedFact.{AskedFact}
 use Rattle.wide_rules.specs.Asked.{AsksMore, Does, Follows, Questions, asked_at}
 use Rattle.wide_rules.specs.declared.answers.Asked.{Asked}
@@ -16,9 +16,13 @@ DoesFor a is_given e = Does a.snapshot.now a.known.now (asked_fact a) is_given e
 abbrev pub IsLedBy : {F : Type 0} → AskedFact F → List (List ℕ) → Type 0
 IsLedBy a names = IsLedByName (tuples_over a) a.known.now (asked_set a) names a.user
 
--- that is so under the relation of this userset
+-- the object of this userset is known to have the user under one of them
+abbrev pub GivesUnder : {F : Type 0} → AskedFact F → List (List ℕ) → SetValue → Type 0
+GivesUnder a names g = (c : List ℕ) × Contains names c × GivesFor a (Some c) g
+
+-- the relation of this userset is one of them, and some userset of its object is stored in its set
 abbrev pub LeadsUnder : {F : Type 0} → AskedFact F → List (List ℕ) → SetValue → Type 0
-LeadsUnder a names t = LeadsByName (tuples_over a) a.known.now (asked_set a) names a.user t
+LeadsUnder a names t = Contains names t.relation × IsObjectStored (tuples_over a) (asked_set a) t
 
 -- none that is stored there may have the user under one of them
 abbrev pub IsBarredBy : {F : Type 0} → AskedFact F → List (List ℕ) → Type 0

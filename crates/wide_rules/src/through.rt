@@ -1,22 +1,25 @@
 //! What is read through one tupleset.
 
-ghost use Rattle.std.specs.Prelude.{◌≡◌, ◌↔◌, ◌⊎◌, ℕ, List, Some, Contains, IsTrue, true, false, slice_get, string_bytes};
+ghost use Rattle.std.specs.Prelude.{◌≡◌, ◌↔◌, ◌⊎◌, ◌≤◌, ℕ, List, None, Some, Contains, IsTrue, true, false, length, slice_get, string_bytes};
 ghost use Rattle.tuple_text.specs.Refs.{set_value};
 ghost use Rattle.namespaces.specs.InForce.{names_in_force};
 ghost use Rattle.rewrites.specs.Parts.{computed_names, through_expression};
 ghost use Rattle.strata.specs.Meaning.{with_relation};
 ghost use Rattle.judgement.specs.Passes.{SomeSet};
-ghost use Rattle.wide_rules.specs.AskedFact.{BarsUnder, DoesFor, IsBarredBy, IsLedBy, LeadsUnder};
-ghost use Rattle.judgement.specs.AskedFact.{BarsFor, IsLedFor, asked_set};
+ghost use Rattle.wide_rules.specs.AskedFact.{BarsUnder, DoesFor, GivesUnder, IsBarredBy, IsLedBy, LeadsUnder};
+ghost use Rattle.judgement.specs.AskedFact.{BarsFor, GivesFor, asked_set};
 ghost use Rattle.wide_rules.specs.Declaring.{AreDeclaring};
 ghost use Rattle.wide_rules.specs.Kept.{AreLive};
 
 use crate::crowded::are_barred_by_index;
 use crate::declaring::is_among;
-use judgement::{AskedFact, KnownFact, SetsOfUser, crowd_of, is_barred, is_led, is_out, under};
+use judgement::{
+    AskedFact, KnownFact, SetsOfUser, crowd_of, is_barred, is_in, is_out, stores_object, under,
+};
 use marks::MarkedSet;
 use rewrites::Through;
 use tuple_text::SetRef;
+use version_chains::Usersets;
 
 /// Up to how many relations are asked for one by one.
 const FEW_RELATIONS: usize = 4;
@@ -78,52 +81,92 @@ fn bars_names<F: KnownFact>(
     true
 }
 
-/// Whether some userset that is stored in the set has the user under relation number `k` that is read.
-fn leads_at<F: KnownFact>(fact: &AskedFact<'_, F>, through: &Through, k: usize) -> bool
-    ensures leads { IsTrue result → IsLedBy fact.now (computed_names through.now) }
+/// Whether the object of a stored userset is known to have the user under relation number `k` that is read.
+fn gives_at<F: KnownFact>(
+    fact: &AskedFact<'_, F>,
+    through: &Through,
+    one: MarkedSet<'_>,
+    k: usize,
+) -> bool
+    ensures gives { IsTrue result → GivesUnder fact.now (computed_names through.now) (set_value one.entry.set) }
     ensures none { (c : List ℕ) → slice_get (computed_names through.now) k ≡ Some c
-        → IsLedFor fact.now (Some c) → IsTrue result }
+        → GivesFor fact.now (Some c) (set_value one.entry.set) → IsTrue result }
 {
     match through.name(k) {
-        Some(name) => is_led(fact, Some(name)),
+        Some(name) => is_in(fact, one, Some(name)),
         None => false,
     }
 }
 
-/// Whether one has the user under the relation of a target, where that is read.
-fn leads_by_name<F: KnownFact>(
+/// Whether the relation of a target is read, and a userset of its object is stored in the set.
+fn leads_by_target<F: KnownFact>(
     fact: &AskedFact<'_, F>,
     through: &Through,
     target: SetRef<'_>,
 ) -> bool
     ensures { IsTrue result ↔ LeadsUnder fact.now (computed_names through.now) (set_value target.entry) }
 {
-    let name = target.relation;
-    through.reads(name) && is_led(fact, Some(name))
+    through.reads(target.relation) && stores_object(fact, target)
 }
 
-/// Whether one has the user under a relation that is read, or under that of one of some targets. It goes over both
-/// lists side by side, so it takes no more steps than the shorter has items.
+/// Whether the object of a stored userset is known to have the user under a relation that is read, or one of some
+/// targets leads to it. It goes over both side by side; `None` where no relation does, and targets are left.
+fn gives_either<F: KnownFact>(
+    fact: &AskedFact<'_, F>,
+    through: &Through,
+    one: MarkedSet<'_>,
+    targets: &mut SetsOfUser<'_, F>,
+) -> Option<bool>
+    ensures gives { result ≡ Some true → GivesUnder fact.now (computed_names through.now) (set_value one.entry.set)
+        ⊎ SomeSet (LeadsUnder fact.now (computed_names through.now)) targets.old }
+    ensures over { result ≡ Some false → ¬ SomeSet (LeadsUnder fact.now (computed_names through.now)) targets.old }
+    ensures none { result ≡ None → ¬ GivesUnder fact.now (computed_names through.now) (set_value one.entry.set) }
+    ensures left { result ≡ None → SomeSet (LeadsUnder fact.now (computed_names through.now)) targets.new
+        ↔ SomeSet (LeadsUnder fact.now (computed_names through.now)) targets.old }
+    ensures fewer { length targets.new ≤ length targets.old }
+{
+    for k in 0..through.computed.len() {
+        if gives_at(fact, through, one, k) {
+            return Some(true);
+        }
+        let Some(target) = targets.next() else {
+            return Some(false);
+        };
+        if leads_by_target(fact, through, target.set) {
+            return Some(true);
+        }
+    }
+    None
+}
+
+/// Whether the object of one of some stored usersets is known to have the user under a relation that is read, or one of
+/// some targets leads to it. It goes over both side by side, one tuple of the set or one relation of a stored userset at
+/// a time, so it takes no more steps than there are targets, nor than tuples were ever stored and relations are read of
+/// those that are.
 fn leads_by_either<F: KnownFact>(
     fact: &AskedFact<'_, F>,
     through: &Through,
+    stored: Usersets<'_>,
     targets: SetsOfUser<'_, F>,
 ) -> bool
-    ensures leads { result ≡ true → IsLedBy fact.now (computed_names through.now)
+    ensures leads { result ≡ true → SomeSet (GivesUnder fact.now (computed_names through.now)) stored.entry
         ⊎ SomeSet (LeadsUnder fact.now (computed_names through.now)) targets.entry }
-    ensures none { result ≡ false → (¬ IsLedBy fact.now (computed_names through.now))
+    ensures none { result ≡ false → (¬ SomeSet (GivesUnder fact.now (computed_names through.now)) stored.entry)
         ⊎ (¬ SomeSet (LeadsUnder fact.now (computed_names through.now)) targets.entry) }
 {
+    let mut stored = stored;
     let mut targets = targets;
-    for k in 0..through.computed.len() {
-        if leads_at(fact, through, k) {
+    while let Some(target) = targets.next() {
+        if leads_by_target(fact, through, target.set) {
             return true;
         }
-        let Some(target) = targets.next() else {
+        let Some(step) = stored.step() else {
             return false;
         };
-        if leads_by_name(fact, through, target.set) {
-            return true;
+        if let Some(one) = step {
+            if let Some(is_led) = gives_either(fact, through, one, &mut targets) {
+                return is_led;
+            }
         }
     }
     false
@@ -133,7 +176,8 @@ fn leads_by_either<F: KnownFact>(
 fn is_led_by_name<F: KnownFact>(fact: &AskedFact<'_, F>, through: &Through) -> bool
     ensures { IsTrue result ↔ IsLedBy fact.now (computed_names through.now) }
 {
-    leads_by_either(fact, through, fact.known.sets_of(fact.user))
+    let stored = fact.snapshot.usersets(fact.set);
+    leads_by_either(fact, through, stored, fact.known.sets_of(fact.user))
 }
 
 /// Whether no userset that is stored in the set may have the user under a relation that is read, one relation after the
