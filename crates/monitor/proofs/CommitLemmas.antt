@@ -49,9 +49,9 @@ first_or_none : (s : ℕ) (cs : List Commit)
     → ((c : ℕ) × IsFirst s cs c) ⊎ ((j : ℕ) → j < length cs → get_or (times cs) j 0 < s)
 first_or_none s [] = inr (λ j lt. absurd (omega (arith, lt)))
 first_or_none s (x ∷ cs) = elim (cases_lt x.at s) [
-    | inl below ↦ by_rest below (first_or_none s cs)
-    | inr here ↦ inl (0, record { inside = omega arith; reaches = here; before = λ j lt. absurd (omega (arith, lt)) })
-  ]
+  | inl below ↦ by_rest below (first_or_none s cs)
+  | inr here ↦ inl (0, record { inside = omega arith; reaches = here; before = λ j lt. absurd (omega (arith, lt)) })
+]
   where
     behind : x.at < s → (j : ℕ) (c : ℕ) → ((k : ℕ) → k < c → get_or (times cs) k 0 < s) → j < suc c
         → get_or (times (x ∷ cs)) j 0 < s
@@ -60,11 +60,14 @@ first_or_none s (x ∷ cs) = elim (cases_lt x.at s) [
 
     by_rest : x.at < s → ((c : ℕ) × IsFirst s cs c) ⊎ ((j : ℕ) → j < length cs → get_or (times cs) j 0 < s)
         → ((c : ℕ) × IsFirst s (x ∷ cs) c) ⊎ ((j : ℕ) → j < length (x ∷ cs) → get_or (times (x ∷ cs)) j 0 < s)
-    by_rest below (inl (c, first)) = inl (suc c, record {
-      inside = let inside = first.inside in omega (arith, inside);
-      reaches = first.reaches;
-      before = λ j lt. behind below j c first.before lt;
-    })
+    by_rest below (inl (c, first)) = inl (
+      suc c,
+      record {
+        inside = let inside = first.inside in omega (arith, inside);
+        reaches = first.reaches;
+        before = λ j lt. behind below j c first.before lt;
+      },
+    )
     by_rest below (inr none) = inr (λ j lt. behind below j (length cs) none (omega (arith, lt)))
 
 -- where the last of the first commits is below a timestamp, all of them are
@@ -152,24 +155,24 @@ module _ (t : TraceValue) (placed : HasPlacedCommits t) where
       where
         reached_by : (d : ℕ) → IsFirst e.snapshot t.commits d → IsReached t c e.snapshot → d < c
         reached_by d first (j, below, le) = elim (cases_lt d c) [
-            | inl lt ↦ lt
-            | inr ge ↦ let up = first.before j (omega (arith, below, ge)) in absurd (omega (arith, up, le))
-          ]
+          | inl lt ↦ lt
+          | inr ge ↦ let up = first.before j (omega (arith, below, ge)) in absurd (omega (arith, up, le))
+        ]
 
         apart : (d : ℕ) → IsFirst e.snapshot t.commits d → max e.line (line_of t d) ≡ line_of t c → ⊥
         apart d first same = elim (cases_lt d c) [
-            | inl lt ↦ let later = line_later c behind inside in let up = lines_rise d c lt inside in
-                omega (arith, same, later, up)
-            | inr ge ↦ elim (cases_lt c d) [
-              | inl gt ↦ let up = lines_rise c d gt first.inside in omega (arith, same, up)
-              | inr le ↦
-                  let here : d ≡ c = omega (arith, ge, le) in
-                  unsettled (
-                    subst (λ (n : ℕ). e.snapshot ≤ time_of t n) here first.reaches,
-                    λ reached. let lt = reached_by d first reached in omega (arith, lt, here),
-                  )
-            ]
+          | inl lt ↦ let later = line_later c behind inside in let up = lines_rise d c lt inside in
+              omega (arith, same, later, up)
+          | inr ge ↦ elim (cases_lt c d) [
+            | inl gt ↦ let up = lines_rise c d gt first.inside in omega (arith, same, up)
+            | inr le ↦
+                let here : d ≡ c = omega (arith, ge, le) in
+                unsettled (
+                  subst (λ (n : ℕ). e.snapshot ≤ time_of t n) here first.reaches,
+                  λ reached. let lt = reached_by d first reached in omega (arith, lt, here),
+                )
           ]
+        ]
 
         by_first : ((d : ℕ) × IsFirst e.snapshot t.commits d) ⊎ ((j : ℕ) → j < length t.commits → time_of t j < e.snapshot)
             → is_at (line_of t c) (settling_line t e) ≡ false
@@ -265,9 +268,9 @@ module _ (t : TraceValue) (placed : HasPlacedCommits t) where
         by_inside : (e.before < length t.commits) ⊎ (length t.commits ≤ e.before)
             → (e.before < length t.commits) × (l ≡ line_of t e.before)
         by_inside (inl inside) = elim (cases_lt e.snapshot (time_of t e.before)) [
-            | inl lt ↦ by_time inside (inr lt)
-            | inr le ↦ by_time inside (inl le)
-          ]
+          | inl lt ↦ by_time inside (inr lt)
+          | inr le ↦ by_time inside (inl le)
+        ]
         by_inside (inr beyond) =
             let none = none_behind t.commit_lines t.commits e.before e.line count placed.timestamps within stands.earlier stands.later e.snapshot beyond in
             let h : None ≡ Some l = sym (rw none refl) ∙ shown in absurd cc

@@ -71,18 +71,18 @@ module _ {k : ℕ} (t u : TraceValue) (goes : GoesOn k t u) (old : AreInPlace t)
   -- a further entry stands behind all commits so far
   behind_all : (i : ℕ) (e : EntryValue) → slice_get u.entries i ≡ Some e → length t.entries ≤ i → length t.commits ≤ e.before
   behind_all i e at le = elim (cases_lt e.before (length t.commits)) [
-      | inr ge ↦ ge
-      | inl lt ↦
-          let line = behind (λ (x : EntryValue). k < x.line) t.entries goes.entries goes.entries_behind i e le
-              (sym (ap (λ (es : List EntryValue). slice_get es i) goes.recorded) ∙ at) in
-          let more = more_commits in
-          let ahead = line_later u new.commits e (placed_at u new i e at) e.before (omega arith) (omega (arith, lt, more)) in
-          let same = same_line e.before lt in
-          let count = old.commits.counted in
-          let last = below_last t.commit_lines old.commits.lines e.before (omega (arith, lt, count)) in
-          let within = goes.within in
-          absurd (omega (arith, line, ahead, same, last, within))
-    ]
+    | inr ge ↦ ge
+    | inl lt ↦
+        let line = behind (λ (x : EntryValue). k < x.line) t.entries goes.entries goes.entries_behind i e le
+        (sym (ap (λ (es : List EntryValue). slice_get es i) goes.recorded) ∙ at) in
+        let more = more_commits in
+        let ahead = line_later u new.commits e (placed_at u new i e at) e.before (omega arith) (omega (arith, lt, more)) in
+        let same = same_line e.before lt in
+        let count = old.commits.counted in
+        let last = below_last t.commit_lines old.commits.lines e.before (omega (arith, lt, count)) in
+        let within = goes.within in
+        absurd (omega (arith, line, ahead, same, last, within))
+  ]
 
   pub stands_on : (m : Monitor) → Stands t m → Stands u m
   stands_on m stands = record {

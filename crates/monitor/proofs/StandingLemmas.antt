@@ -52,38 +52,38 @@ module _ (t : TraceValue) (placed : AreInPlace t)
   pub before_rises : (i j : ℕ) (e x : EntryValue) → slice_get t.entries i ≡ Some e → slice_get t.entries j ≡ Some x
       → i ≤ j → e.before ≤ x.before
   before_rises i j e x at there le = elim (cases_lt x.before e.before) [
-      | inr fine ↦ fine
-      | inl lt ↦
-          let inside = within i e at in
-          let behind = line_later t commits x (placed_at t placed j x there) x.before (omega arith) (omega (arith, lt, inside)) in
-          let ahead = line_earlier t commits e (placed_at t placed i e at) x.before lt in
-          elim (cases_lt i j) [
-            | inl less ↦ let up = line_before t rising j i x e there at less in omega (arith, behind, ahead, up)
-            | inr ge ↦
-                let same : i ≡ j = omega (arith, le, ge) in
-                let alike : e ≡ x = let h = sym at ∙ ap (slice_get t.entries) same ∙ there in cc in
-                let lines = ap (λ (y : EntryValue). y.before) alike in
-                omega (arith, lt, lines)
-          ]
-    ]
+    | inr fine ↦ fine
+    | inl lt ↦
+        let inside = within i e at in
+        let behind = line_later t commits x (placed_at t placed j x there) x.before (omega arith) (omega (arith, lt, inside)) in
+        let ahead = line_earlier t commits e (placed_at t placed i e at) x.before lt in
+        elim (cases_lt i j) [
+          | inl less ↦ let up = line_before t rising j i x e there at less in omega (arith, behind, ahead, up)
+          | inr ge ↦
+              let same : i ≡ j = omega (arith, le, ge) in
+              let alike : e ≡ x = let h = sym at ∙ ap (slice_get t.entries) same ∙ there in cc in
+              let lines = ap (λ (y : EntryValue). y.before) alike in
+              omega (arith, lt, lines)
+        ]
+  ]
 
   -- two entries stand on two lines
   lines_differ : (i j : ℕ) (e x : EntryValue) → slice_get t.entries i ≡ Some e → slice_get t.entries j ≡ Some x
       → (j ≡ i → ⊥) → x.line ≡ e.line → ⊥
   lines_differ i j e x at there differ same = elim (cases_lt i j) [
-      | inl lt ↦ let up = line_before t rising j i x e there at lt in omega (arith, up, same)
-      | inr ge ↦ elim (cases_lt j i) [
-        | inl lt ↦ let up = line_before t rising i j e x at there lt in omega (arith, up, same)
-        | inr le ↦ differ (omega (arith, ge, le))
-      ]
+    | inl lt ↦ let up = line_before t rising j i x e there at lt in omega (arith, up, same)
+    | inr ge ↦ elim (cases_lt j i) [
+      | inl lt ↦ let up = line_before t rising i j e x at there lt in omega (arith, up, same)
+      | inr le ↦ differ (omega (arith, ge, le))
     ]
+  ]
 
   -- no line of an entry is that of a commit
   apart : (i c : ℕ) (e : EntryValue) → slice_get t.entries i ≡ Some e → c < length t.commits → line_of t c ≡ e.line → ⊥
   apart i c e at inside same = elim (cases_lt c e.before) [
-      | inl lt ↦ let up = line_earlier t commits e (placed_at t placed i e at) c lt in omega (arith, up, same)
-      | inr ge ↦ let up = line_later t commits e (placed_at t placed i e at) c ge inside in omega (arith, up, same)
-    ]
+    | inl lt ↦ let up = line_earlier t commits e (placed_at t placed i e at) c lt in omega (arith, up, same)
+    | inr ge ↦ let up = line_later t commits e (placed_at t placed i e at) c ge inside in omega (arith, up, same)
+  ]
 
   -- an entry's own line shows no snapshot open
   pub opens_later : (i : ℕ) (e : EntryValue) → slice_get t.entries i ≡ Some e → is_at e.line (open_snapshot t e) ≡ false
@@ -176,8 +176,7 @@ module _ (t : TraceValue) (placed : AreInPlace t)
               (h.0, h.1, let lt = h.2 in omega (arith, lt, more), h.3, subst (λ (c : ℕ). ¬ IsReached t c s) (sym same_commits) h.4)
           | inr new ↦
               let is_s : s ≡ e.snapshot = ap (λ (q : ℕ × ℕ). q.0) new.0 in
-              let is_i : i ≡ m.entries = ap (λ (q : ℕ × ℕ). q.1) new.0 in
-              (
+              let is_i : i ≡ m.entries = ap (λ (q : ℕ × ℕ). q.1) new.0 in (
                 e,
                 ap (slice_get t.entries) is_i ∙ next.there,
                 omega (arith, is_i, more),
@@ -215,31 +214,39 @@ module _ (t : TraceValue) (placed : AreInPlace t)
             ];
         waiting = λ s i there.
             let now = subst (λ (ks : List (ℕ × ℕ)). Contains ks (s, i)) is there in
-            let h = stands.waiting s i (are.kept (s, i) now) in
-            (h.0, h.1, let lt = h.2 in omega (arith, lt, same_entries), h.3, λ (c, lt, le). elim (cases_lt c m.commits) [
-              | inl below ↦ h.4 (c, below, le)
-              | inr ge ↦
-                  let here : c ≡ m.commits = omega (arith, ge, lt, more) in
-                  let later = are.later (s, i) now in
-                  let time = ap (time_of t) here in
-                  omega (arith, le, later, time)
-            ]);
+            let h = stands.waiting s i (are.kept (s, i) now) in (
+              h.0,
+              h.1,
+              let lt = h.2 in omega (arith, lt, same_entries),
+              h.3,
+              λ (c, lt, le). elim (cases_lt c m.commits) [
+                | inl below ↦ h.4 (c, below, le)
+                | inr ge ↦
+                    let here : c ≡ m.commits = omega (arith, ge, lt, more) in
+                    let later = are.later (s, i) now in
+                    let time = ap (time_of t) here in
+                    omega (arith, le, later, time)
+              ],
+            );
       }
 
       -- those that are due stand before the commit
       stands_before : (i : ℕ) → Contains due i → (e : EntryValue) × (slice_get t.entries i ≡ Some e) × (e.before ≤ m.commits)
       stands_before i there = elim (are.only i there) [
-          | inl between ↦
-              let inside = stands.entries in
-              let found = entry_at t.entries i (let end = between.1 in omega (arith, end, inside)) in
-              (found.0, found.1, let is = stands.last i found.0 found.1 between.0 between.1 in omega (arith, is))
-          | inr awaited ↦
-              let h = stands.waiting awaited.0 i awaited.2 in
-              (h.0, h.1, elim (cases_lt i m.fresh) [
+        | inl between ↦
+            let inside = stands.entries in
+            let found = entry_at t.entries i (let end = between.1 in omega (arith, end, inside)) in
+            (found.0, found.1, let is = stands.last i found.0 found.1 between.0 between.1 in omega (arith, is))
+        | inr awaited ↦
+            let h = stands.waiting awaited.0 i awaited.2 in (
+              h.0,
+              h.1,
+              elim (cases_lt i m.fresh) [
                 | inl below ↦ let up = stands.earlier i h.0 h.1 below in omega (arith, up)
                 | inr ge ↦ let is = stands.last i h.0 h.1 ge h.2 in omega (arith, is)
-              ])
-        ]
+              ],
+            )
+      ]
 
       pub due_before : StandBefore t m.commits due
       due_before i d lt = stands_before (get_or due i d) (All-contains_itself due i d lt)
@@ -248,13 +255,13 @@ module _ (t : TraceValue) (placed : AreInPlace t)
       pub silent_undue : (j : ℕ) (x : EntryValue) → slice_get t.entries j ≡ Some x → (Contains due j → ⊥)
           → IsSilent t (line_of t m.commits) j x
       silent_undue j x there undue = elim (cases_lt j m.entries) [
-          | inr ge ↦ silent_behind m.commits j x next.there there (next.behind j x there ge)
-          | inl lt ↦ elim (cases_lt j m.fresh) [
-            | inr fresh ↦ absurd (undue (are.between j fresh lt))
-            | inl old ↦ silent_before m.commits j x next.there there (stands.earlier j x there old) (λ settles.
-                elim (are.waited (x.snapshot, j) (stands.waits j x there lt settles.1)) [
-                  | inl still ↦ let later = are.later (x.snapshot, j) still in let le = settles.0 in absurd (omega (arith, later, le))
-                  | inr told ↦ undue told.1
-                ])
-          ]
+        | inr ge ↦ silent_behind m.commits j x next.there there (next.behind j x there ge)
+        | inl lt ↦ elim (cases_lt j m.fresh) [
+          | inr fresh ↦ absurd (undue (are.between j fresh lt))
+          | inl old ↦ silent_before m.commits j x next.there there (stands.earlier j x there old) (λ settles.
+              elim (are.waited (x.snapshot, j) (stands.waits j x there lt settles.1)) [
+                | inl still ↦ let later = are.later (x.snapshot, j) still in let le = settles.0 in absurd (omega (arith, later, le))
+                | inr told ↦ undue told.1
+              ])
         ]
+      ]

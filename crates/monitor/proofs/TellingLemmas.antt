@@ -59,7 +59,6 @@ abbrev pub IsSilent : TraceValue → ℕ → ℕ → EntryValue → Type 0
 IsSilent t k i e = ((steps : Option (List StepValue)) → told_of t k steps i e ≡ [])
     × (settling_line t e ≡ Some k → ⊥)
 
-
 -- ---- all entries, of which some are told
 
 -- numbers that rise, from one on
@@ -82,9 +81,12 @@ contains_of d ds j (suc n, lt, is) = inr (n, omega (arith, lt), is)
 -- numbers that strictly increase do so
 pub from_rising : (i : ℕ) (ds : List ℕ) → i ≤ get_or ds 0 i → IsStrictlyIncreasing ds → AreFrom i ds
 from_rising i [] le rising = tt
-from_rising i (d ∷ ds) le rising = (le, from_rising (suc d) ds (next ds rising) (λ k lt.
-    let step : suc k + 1 ≡ suc (k + 1) = omega arith in
-    subst (λ (n : ℕ). get_or (d ∷ ds) (suc k) 0 < get_or (d ∷ ds) n 0) step (rising (suc k) (omega (arith, lt)))))
+from_rising i (d ∷ ds) le rising = (
+  le,
+  from_rising (suc d) ds (next ds rising) (λ k lt.
+      let step : suc k + 1 ≡ suc (k + 1) = omega arith in
+      subst (λ (n : ℕ). get_or (d ∷ ds) (suc k) 0 < get_or (d ∷ ds) n 0) step (rising (suc k) (omega (arith, lt)))),
+)
   where
     next : (ds : List ℕ) → IsStrictlyIncreasing (d ∷ ds) → suc d ≤ get_or ds 0 (suc d)
     next [] rising = omega arith
@@ -164,20 +166,19 @@ module _ (Allows : TraceValue → EntryValue → Option (List StepValue) → Typ
           × (flat_map (λ part. part) others ≡ told_from (is_at k) t ((before ++ o ∷ []) ++ given) (suc i) es))
           → (given : List (Option (List StepValue))) × MadeOf t k (e ∷ es) given
           × (part ++ flat_map (λ part. part) others ≡ told_from (is_at k) t (before ++ given) i (e ∷ es))
-      with_part o part others is made (given, each_made, rest) =
-          (
-            o ∷ given,
-            (made, each_made),
-            let steps = steps_at before given o i count in
+      with_part o part others is made (given, each_made, rest) = (
+        o ∷ given,
+        (made, each_made),
+        let steps = steps_at before given o i count in
             let own : part ≡ on_line e.line (at_moments (is_at k) (moments t e) (found_on t (before ++ o ∷ given) i e)) =
-                is ∙ ap (λ (s : Option (List StepValue)). told_of t k s i e) (sym steps) in
+            is ∙ ap (λ (s : Option (List StepValue)). told_of t k s i e) (sym steps) in
             let next : suc i ≡ i + 1 = omega arith in
             let behind : flat_map (λ part. part) others ≡ told_from (is_at k) t (before ++ o ∷ given) (i + 1) es =
-                rest ∙ ap (λ (os : List (Option (List StepValue))). told_from (is_at k) t os (suc i) es) (joined o given)
-                ∙ ap (λ (n : ℕ). told_from (is_at k) t (before ++ o ∷ given) n es) next in
+            rest ∙ ap (λ (os : List (Option (List StepValue))). told_from (is_at k) t os (suc i) es) (joined o given)
+            ∙ ap (λ (n : ℕ). told_from (is_at k) t (before ++ o ∷ given) n es) next in
             ap (λ (fs : List Finding). fs ++ flat_map (λ part. part) others) own
             ∙ ap (λ (fs : List Finding). on_line e.line (at_moments (is_at k) (moments t e) (found_on t (before ++ o ∷ given) i e)) ++ fs) behind,
-          )
+      )
 
       passed_over : Rest None → (ds : List ℕ) (parts : List (List Finding)) → AreFrom (suc i) ds → AllZip (PartAt t k) ds parts
           → IsSilent t k i e
@@ -198,25 +199,25 @@ module _ (Allows : TraceValue → EntryValue → Option (List StepValue) → Typ
       by_numbers rest [] (p ∷ parts) rise each silent = absurd each
       by_numbers rest (d ∷ ds) [] rise each silent = absurd each
       by_numbers rest (d ∷ ds) (p ∷ parts) rise each silent = elim (cases_lt i d) [
-          | inl lt ↦ passed_over (rest None) (d ∷ ds) (p ∷ parts) (omega (arith, lt), rise.1) each
-              (silent i e (omega arith) here (λ there. let le = from_contains d (d ∷ ds) (omega arith, rise.1) i there in omega (arith, lt, le)))
-              (λ j x le. silent j x (omega (arith, le)))
-          | inr ge ↦
-              let first = rise.0 in
-              let same : d ≡ i = omega (arith, ge, first) in
-              let x = each.0.0 in
-              let there : slice_get t.entries i ≡ Some x = ap (slice_get t.entries) (sym same) ∙ each.0.1 in
-              let alike : x ≡ e = let h = sym there ∙ here in cc in
-              let part : IsToldOf Allows t k i e p = subst (λ (y : EntryValue). IsToldOf Allows t k i y p) alike (subst (λ (n : ℕ). IsToldOf Allows t k n x p) same each.0.2) in
-              with_part part.0 p parts part.2 part.1
-              (rest part.0 ds parts (longer part.0) rest_at
-              (subst (λ (n : ℕ). AreFrom (suc n) ds) same rise.1) each.1
-              (λ j y le is apart. silent j y (omega (arith, le)) is
-              (λ there. elim (contains_of d ds j there) [
-                | inl head ↦ omega (arith, head, same, le)
-                | inr rest ↦ apart rest
-              ])))
-        ]
+        | inl lt ↦ passed_over (rest None) (d ∷ ds) (p ∷ parts) (omega (arith, lt), rise.1) each
+            (silent i e (omega arith) here (λ there. let le = from_contains d (d ∷ ds) (omega arith, rise.1) i there in omega (arith, lt, le)))
+            (λ j x le. silent j x (omega (arith, le)))
+        | inr ge ↦
+            let first = rise.0 in
+            let same : d ≡ i = omega (arith, ge, first) in
+            let x = each.0.0 in
+            let there : slice_get t.entries i ≡ Some x = ap (slice_get t.entries) (sym same) ∙ each.0.1 in
+            let alike : x ≡ e = let h = sym there ∙ here in cc in
+            let part : IsToldOf Allows t k i e p = subst (λ (y : EntryValue). IsToldOf Allows t k i y p) alike (subst (λ (n : ℕ). IsToldOf Allows t k n x p) same each.0.2) in
+            with_part part.0 p parts part.2 part.1
+            (rest part.0 ds parts (longer part.0) rest_at
+            (subst (λ (n : ℕ). AreFrom (suc n) ds) same rise.1) each.1
+            (λ j y le is apart. silent j y (omega (arith, le)) is
+            (λ there. elim (contains_of d ds j there) [
+              | inl head ↦ omega (arith, head, same, le)
+              | inr rest ↦ apart rest
+            ])))
+      ]
 
   -- what is told at line k, where of the entries with these numbers each part is told, and the others are silent
   pub told_sparse : (t : TraceValue) (k : ℕ) (ds : List ℕ) (parts : List (List Finding)) → AreFrom 0 ds
@@ -258,7 +259,7 @@ module _ (Allows : TraceValue → EntryValue → Option (List StepValue) → Typ
       steps,
       λ here. allowed,
       ap (λ (k : Judged). on_line e.line (told_at_once (found_where t k i e))) is
-      ∙ sym (told_settled t steps i e opens (ap (is_at e.line) (settles refl) ∙ at_itself e.line)),
+          ∙ sym (told_settled t steps i e opens (ap (is_at e.line) (settles refl) ∙ at_itself e.line)),
     ),
     more,
   )
@@ -268,7 +269,7 @@ module _ (Allows : TraceValue → EntryValue → Option (List StepValue) → Typ
       None,
       λ here. absurd (true≢false (sym (at_itself e.line) ∙ ap (is_at e.line) (sym here) ∙ unsettled refl)),
       ap (λ (k : Judged). on_line e.line (told_at_once (found_where t k i e))) is
-      ∙ sym (told_unsettled t None i e opens (unsettled refl)),
+          ∙ sym (told_unsettled t None i e opens (unsettled refl)),
     ),
     more,
   )
@@ -284,7 +285,7 @@ module _ (Allows : TraceValue → EntryValue → Option (List StepValue) → Typ
       steps,
       λ here. allowed,
       ap (λ (x : Judged). on_line e.line (told_at_commit (found_where t x i e) k)) is
-      ∙ sym (told_settling t k steps i e own (ap (is_at k) (settles refl) ∙ at_itself k)),
+          ∙ sym (told_settling t k steps i e own (ap (is_at k) (settles refl) ∙ at_itself k)),
     ),
     more,
   )
@@ -294,7 +295,7 @@ module _ (Allows : TraceValue → EntryValue → Option (List StepValue) → Typ
       None,
       λ here. absurd (true≢false (sym (at_itself k) ∙ ap (is_at k) (sym here) ∙ unsettled refl)),
       ap (λ (x : Judged). on_line e.line (told_at_commit (found_where t x i e) k)) is
-      ∙ sym (told_opening t k None i e own (unsettled refl)),
+          ∙ sym (told_opening t k None i e own (unsettled refl)),
     ),
     more,
   )
@@ -307,7 +308,7 @@ module _ (Allows : TraceValue → EntryValue → Option (List StepValue) → Typ
     parts ++ told ∷ [],
     zip_more done parts each,
     more ∙ ap (λ (fs : List Finding). fs ++ told) is ∙ append_assoc old (flat_map (λ part. part) parts) told
-    ∙ ap (λ (fs : List Finding). old ++ fs) (sym (flat_more parts)),
+        ∙ ap (λ (fs : List Finding). old ++ fs) (sym (flat_more parts)),
   )
     where
       zip_more : (ds : List ℕ) (ps : List (List Finding)) → AllZip (PartAt t k) ds ps

@@ -44,9 +44,9 @@ module _ {K : Type 0} where
         by_order rest Less = later_there k (x ∷ xs) q h
         by_order rest Equal = h
         by_order rest Greater = elim (first_or_later x xs q h) [
-            | inl first ↦ subst (λ (y : K). Contains (x ∷ insert_key cmp xs k) y) (sym first) (first_there x (insert_key cmp xs k))
-            | inr later ↦ later_there x (insert_key cmp xs k) q (rest later)
-          ]
+          | inl first ↦ subst (λ (y : K). Contains (x ∷ insert_key cmp xs k) y) (sym first) (first_there x (insert_key cmp xs k))
+          | inr later ↦ later_there x (insert_key cmp xs k) q (rest later)
+        ]
 
     pub inserted_only : (xs : List K) (q : K) → Contains (insert_key cmp xs k) q → (q ≡ k) ⊎ Contains xs q
     inserted_only [] q h = elim (first_or_later k [] q h) [

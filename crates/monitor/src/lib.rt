@@ -1,4 +1,21 @@
-//! A monitor of a log that grows: at each line it tells what the log up to there lets it tell.
+//! A monitor of a log that grows: it takes the log's commits and entries in their order, and tells at each line what
+//! the log up to there lets it tell.
+//!
+//! A [`Monitor`] holds how much of a trace it has taken, and the entries that wait for a commit at or above their
+//! snapshots, by snapshot: so a commit looks at those alone that it settles, and at those that came since the commit
+//! before it. [`Monitor::take`] takes the next line. A [`Judge`] says how the evidence for an entry judges it, whoever
+//! made that. Contracts see where a monitor stands in a trace as `Stands` (`specs/Standing.antt`), and what is told as
+//! `Tells` (`specs/Telling.antt`), in the words of `follow_laws`.
+//!
+//! Callers may rely on this: at each line it tells exactly what `told_on` says of that line, by some evidence that the
+//! judge allows, in the order of the entries: nothing twice, too early or of another line. By the laws of
+//! `follow_laws` this is true of each longer log, and with what is left at the end it is what the audit finds. A
+//! monitor that stands in a log stands in each longer one ([`laws::stands_on`]), so it goes on as lines come. What is
+//! left at the end it does not tell yet, and no program uses it yet.
+//!
+//! ```text
+//! while let Some(line) = monitor.take(&trace, &mut judge, &mut told)? { .. }
+//! ```
 #![tactic(auto)]
 
 mod judge;

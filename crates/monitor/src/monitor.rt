@@ -211,7 +211,7 @@ impl Monitor {
             → self.now.entries ≡ length trace.now.entries }
     {
         stand_in_order(trace);
-    entries_rise(trace);
+        entries_rise(trace);
         self.entries < trace.len() && trace.entry(self.entries).before <= self.commits
     }
 
@@ -230,7 +230,7 @@ impl Monitor {
         ensures told { IfOk result (λ k. Tells J.allows trace.now k told.old.items told.new.items) }
     {
         stand_in_order(trace);
-    entries_rise(trace);
+        entries_rise(trace);
         counts_fit(trace);
         let i = self.entries;
         let entry = trace.entry(i);
@@ -258,7 +258,7 @@ impl Monitor {
         ensures told { IfOk result (λ k. Tells J.allows trace.now k told.old.items told.new.items) }
     {
         stand_in_order(trace);
-    entries_rise(trace);
+        entries_rise(trace);
         counts_fit(trace);
         let c = self.commits;
         let at = trace.chains().commits()[c];

@@ -15,9 +15,8 @@ returns-else-c-eq0-clause-reaches c = λ test.
     let within = c.requires in
     let some = c.if-c-eq0.false in
     let le = c.if-at-times.true in
-    let here = ap (λ (xs : List ℕ). get_or xs c.args.c 0) are in
-    (
+    let here = ap (λ (xs : List ℕ). get_or xs c.args.c 0) are in (
       omega (arith, le, here),
       unreached_by t c.args.c c.args.at c.commits-times.result.now are c.commits-times.ensures.rising (omega (arith, within, long, count))
-      (omega (arith, some)) (ltb-true _ _ test),
+          (omega (arith, some)) (ltb-true _ _ test),
     )

@@ -29,12 +29,11 @@ loop-i-preserved g c =
     let i = c.in-Some.i in
     let rest = c.pop_first.new.self.keys in
     let is : c.args.due.keys ≡ done ++ i ∷ rest = c.loop-i.invariant.1 ∙ ap (λ (ks : List ℕ). done ++ ks) c.in-Some.ensures.removal in
-    let there = due_there t c.args.c done i rest (subst (StandBefore t c.args.c) is c.requires.due) in
-    (
+    let there = due_there t c.args.c done i rest (subst (StandBefore t c.args.c) is c.requires.due) in (
       done ++ i ∷ [],
       is ∙ sym (append_assoc done (i ∷ []) rest),
       tells_more g.J.Judge.allows t (line_of t c.args.c) done i there.0 c.args.told.now.items c.loop-i.told.items c.tell_at_commit.new.told.items
-      c.loop-i.invariant.2 there.1 (c.in_ok-tell_at_commit.ensures.told there.0 there.1),
+          c.loop-i.invariant.2 there.1 (c.in_ok-tell_at_commit.ensures.told there.0 there.1),
       c.in_ok-tell_at_commit.ensures.judge ∙ c.loop-i.invariant.3,
     )
 

@@ -11,11 +11,14 @@ use Rattle.monitor.proofs.waiting.due.Invariants.{AreFirst, AreLetGo}
 use Rattle.monitor.proofs.waiting.due.Goals as goal
 
 pub loop-i-init : goal.loop-i-init
-loop-i-init c = (refl, record {
-  sorted = c.new-due.ensures.ordered;
-  there = λ j from lt. absurd (omega (arith, from, lt));
-  only = λ j there. absurd (none_there j (subst (λ (ks : List ℕ). Contains ks j) c.new-due.ensures.empty there));
-})
+loop-i-init c = (
+  refl,
+  record {
+    sorted = c.new-due.ensures.ordered;
+    there = λ j from lt. absurd (omega (arith, from, lt));
+    only = λ j there. absurd (none_there j (subst (λ (ks : List ℕ). Contains ks j) c.new-due.ensures.empty there));
+  },
+)
 
 pub loop-i-preserved : goal.loop-i-preserved
 loop-i-preserved c =
@@ -23,20 +26,22 @@ loop-i-preserved c =
     let due = c.loop-i.due.keys in
     let first = c.loop-i.invariant.1 in
     let begun = c.loop-i.auto.i in
-    let is = c.in_ok-insert.ensures.keys in
-    (refl, record {
-      sorted = c.in_ok-insert.ensures.ordered;
-      there = λ j from lt. subst (λ (ks : List ℕ). Contains ks j) (sym is) (elim (cases_lt j i) [
-        | inl below ↦ inserted_kept nat_cmp exact_unsigned i due j (first.there j from below)
-        | inr ge ↦
-            let same : i ≡ j = omega (arith, ge, lt) in
-            subst (λ (k : ℕ). Contains (insert_key nat_cmp due i) k) same (inserted_there nat_cmp exact_unsigned i due)
-      ]);
-      only = λ j there. elim (inserted_only nat_cmp exact_unsigned i due j (subst (λ (ks : List ℕ). Contains ks j) is there)) [
-        | inl same ↦ (omega (arith, same, begun), omega (arith, same))
-        | inr before ↦ let b = first.only j before in (b.0, let lt = b.1 in omega (arith, lt))
-      ];
-    })
+    let is = c.in_ok-insert.ensures.keys in (
+      refl,
+      record {
+        sorted = c.in_ok-insert.ensures.ordered;
+        there = λ j from lt. subst (λ (ks : List ℕ). Contains ks j) (sym is) (elim (cases_lt j i) [
+          | inl below ↦ inserted_kept nat_cmp exact_unsigned i due j (first.there j from below)
+          | inr ge ↦
+              let same : i ≡ j = omega (arith, ge, lt) in
+              subst (λ (k : ℕ). Contains (insert_key nat_cmp due i) k) same (inserted_there nat_cmp exact_unsigned i due)
+        ]);
+        only = λ j there. elim (inserted_only nat_cmp exact_unsigned i due j (subst (λ (ks : List ℕ). Contains ks j) is there)) [
+          | inl same ↦ (omega (arith, same, begun), omega (arith, same))
+          | inr before ↦ let b = first.only j before in (b.0, let lt = b.1 in omega (arith, lt))
+        ];
+      },
+    )
 
 pub loop-i-2-init : goal.loop-i-2-init
 loop-i-2-init c =
@@ -71,8 +76,12 @@ loop-i-2-preserved c =
       ];
       only = λ j there. elim (inserted_only nat_cmp exact_unsigned i due j (subst (λ (ks : List ℕ). Contains ks j) is there)) [
         | inr before ↦ so_far.only j before
-        | inl same ↦ inr (popped.0, popped.1, so_far.kept (popped.0, j) (subst (λ (ks : List (ℕ × ℕ)). Contains ks (popped.0, j)) (sym popped.2)
-            (subst (λ (k : ℕ). Contains ((popped.0, i) ∷ c.pop_up_to.new.waiting.keys) (popped.0, k)) (sym same) (first_there (popped.0, i) c.pop_up_to.new.waiting.keys))))
+        | inl same ↦ inr (
+          popped.0,
+          popped.1,
+          so_far.kept (popped.0, j) (subst (λ (ks : List (ℕ × ℕ)). Contains ks (popped.0, j)) (sym popped.2)
+              (subst (λ (k : ℕ). Contains ((popped.0, i) ∷ c.pop_up_to.new.waiting.keys) (popped.0, k)) (sym same) (first_there (popped.0, i) c.pop_up_to.new.waiting.keys))),
+        )
       ];
       kept = λ q new. so_far.kept q (subst (λ (ks : List (ℕ × ℕ)). Contains ks q) (sym popped.2) (later_there (popped.0, i) c.pop_up_to.new.waiting.keys q new));
     }
