@@ -1,6 +1,6 @@
 -- At which line an entry is told: what a commit's line and an entry's own line are to its moments.
 use Rattle.std.proofs.Common.{◌≡◌, ℕ, zero, suc, ◌+◌, ◌-◌, ◌<◌, ◌≤◌, ◌⊎◌, inl, inr, Bool, true, false, cond, ltb, leb, eqb, max, List, [], ◌∷◌, length, map, get_or, take, drop, Option, Some, None, refl, sym, ◌∙◌, ap, subst, arith, rules}
-use Rattle.std.specs.Prelude.{slice_get, option_map, All}
+use Rattle.std.specs.Prelude.{slice_get, is_none, option_map, All}
 use Rattle.std.specs.List.{list_any}
 use Rattle.std.specs.List.Sorted.{IsStrictlyIncreasing}
 use Rattle.std.proofs.Math.Seq.{drop-cons}
@@ -238,6 +238,24 @@ module _ (t : TraceValue) (placed : HasPlacedCommits t) where
         by_first (inl (d, first)) =
             ap (is_at k) (settling_first d first) ∙ not_at k (max e.line (line_of t d)) (λ same. omega (arith, lt, same))
         by_first (inr none) = ap (is_at k) (settling_none none)
+
+    -- an entry that no commit reaches is settled nowhere
+    pub settles_never : ¬ IsReached t (length t.commits) e.snapshot → settling_line t e ≡ None
+    settles_never unreached = by_first (first_or_none e.snapshot t.commits)
+      where
+        by_first : ((d : ℕ) × IsFirst e.snapshot t.commits d) ⊎ ((j : ℕ) → j < length t.commits → time_of t j < e.snapshot)
+            → settling_line t e ≡ None
+        by_first (inl (d, first)) = absurd (unreached (d, first.inside, first.reaches))
+        by_first (inr none) = settling_none none
+
+    -- and each other one somewhere
+    pub settles_somewhere : ¬ (¬ IsReached t (length t.commits) e.snapshot) → is_none (settling_line t e) ≡ false
+    settles_somewhere reached = by_first (first_or_none e.snapshot t.commits)
+      where
+        by_first : ((d : ℕ) × IsFirst e.snapshot t.commits d) ⊎ ((j : ℕ) → j < length t.commits → time_of t j < e.snapshot)
+            → is_none (settling_line t e) ≡ false
+        by_first (inl (d, first)) = ap is_none (settling_first d first)
+        by_first (inr none) = absurd (reached (λ (j, lt, le). let up = none j lt in omega (arith, up, le)))
 
     -- ---- the line that shows its snapshot open
 

@@ -1,21 +1,21 @@
 -- How a monitor stands behind an entry or a commit that it takes.
-use Rattle.std.proofs.Common.{◌≡◌, ℕ, zero, suc, ◌+◌, ◌<◌, ◌≤◌, ◌⊎◌, inl, inr, List, [], ◌∷◌, ◌++◌, length, get_or, Some, true, false, refl, sym, ◌∙◌, ap, subst, arith}
-use Rattle.std.specs.Prelude.{slice_get, Contains, All}
+use Rattle.std.proofs.Common.{◌≡◌, ℕ, zero, suc, ◌+◌, ◌<◌, ◌≤◌, ◌⊎◌, inl, inr, List, [], ◌∷◌, ◌++◌, length, get_or, Option, Some, None, true, false, refl, sym, ◌∙◌, ap, subst, arith}
+use Rattle.std.specs.Prelude.{slice_get, is_none, Contains, All}
 use Rattle.std.specs.List.Sorted.{IsStrictlyIncreasing}
 use Rattle.std.proofs.lemmas.Bool.{cases_lt, true≢false}
 use Rattle.std.proofs.lemmas.Option.{slice_get_within, slice_get-get_or, get_or_from_slice_get}
-use Rattle.std.proofs.lemmas.List.Elements.{All-contains, All-contains_itself, Contains-append_right}
+use Rattle.std.proofs.lemmas.List.Elements.{All-cons, All-contains, All-contains_itself, All-nil, Contains-append_right}
 use Rattle.trace_lines.specs.Kept.{IsPlaced}
 use Rattle.trace_lines.specs.Placed.{AreInPlace, HasPlacedCommits}
 use Rattle.trace_lines.specs.Values.{EntryValue, TraceValue, entry_lines}
 use Rattle.token_order.specs.Found.{open_snapshot}
 use Rattle.token_order.proofs.Lines.{line_before}
 use Rattle.follow_laws.specs.Told.{is_at, settling_line}
-use Rattle.monitor.specs.Standing.{IsReached, IsEntryNext, IsCommitNext, Stands, StandBefore, time_of, line_of}
-use Rattle.monitor.specs.Waiting.{AreDue}
+use Rattle.monitor.specs.Standing.{AreToBeTold, AreUnreached, IsReached, IsEntryNext, IsCommitNext, Stands, StandBefore, time_of, line_of}
+use Rattle.monitor.specs.Waiting.{AreDue, AreLeft}
 use Rattle.monitor.specs.declared.monitor.Monitor.{Monitor}
-use Rattle.monitor.proofs.CommitLemmas.{at_itself, not_at, lines_rise, line_earlier, line_later, settles_nowhere, settles_not_at, settles_not_before, opens_elsewhere}
-use Rattle.monitor.proofs.TellingLemmas.{IsSilent, silent_of}
+use Rattle.monitor.proofs.CommitLemmas.{not_at, lines_rise, line_earlier, line_later, settles_nowhere, settles_not_at, settles_not_before, settles_somewhere, opens_elsewhere}
+use Rattle.monitor.proofs.TellingLemmas.{IsSilent, silent_left, silent_of}
 use Rattle.monitor.proofs.WaitingLemmas.{first_there}
 
 entry_at : (es : List EntryValue) (i : ℕ) → i < length es → (e : EntryValue) × (slice_get es i ≡ Some e)
@@ -23,10 +23,24 @@ entry_at [] i lt = absurd (omega (arith, lt))
 entry_at (e ∷ es) zero lt = (e, refl)
 entry_at (e ∷ es) (suc i) lt = entry_at es i (omega (arith, lt))
 
--- of those that are due, one of them
-pub due_there : (t : TraceValue) (c : ℕ) (done : List ℕ) (i : ℕ) (rest : List ℕ) → StandBefore t c (done ++ i ∷ rest)
-    → (e : EntryValue) × (slice_get t.entries i ≡ Some e) × (e.before ≤ c)
-due_there t c done i rest all = All-contains (λ (j : ℕ). (e : EntryValue) × (slice_get t.entries j ≡ Some e) × (e.before ≤ c)) (done ++ i ∷ rest) i all (Contains-append_right done (i ∷ rest) i (first_there i rest))
+alone : (P : ℕ → Type 0) (done : List ℕ) (i : ℕ) (rest : List ℕ) → All P (done ++ i ∷ rest) → All P (i ∷ [])
+alone P done i rest all = All-cons P i []
+    (All-contains P (done ++ i ∷ rest) i all (Contains-append_right done (i ∷ rest) i (first_there i rest))) (All-nil P)
+
+-- of those that are to be told, one of them
+pub one_to_be_told : (t : TraceValue) (commit : Option ℕ) (done : List ℕ) (i : ℕ) (rest : List ℕ)
+    → AreToBeTold t commit (done ++ i ∷ rest) → AreToBeTold t commit (i ∷ [])
+one_to_be_told t (Some c) done i rest (inside, all) =
+    (inside, alone (λ (j : ℕ). (e : EntryValue) × (slice_get t.entries j ≡ Some e) × (e.before ≤ c)) done i rest all)
+one_to_be_told t None done i rest all =
+    alone (λ (j : ℕ). (e : EntryValue) × (slice_get t.entries j ≡ Some e) × ¬ IsReached t (length t.commits) e.snapshot)
+    done i rest all
+
+-- which is an entry
+pub place_to_be_told : (t : TraceValue) (commit : Option ℕ) (i : ℕ) → AreToBeTold t commit (i ∷ [])
+    → (e : EntryValue) × (slice_get t.entries i ≡ Some e)
+place_to_be_told t (Some c) i (inside, all) = let h = all 0 0 (omega arith) in (h.0, h.1)
+place_to_be_told t None i all = let h = all 0 0 (omega arith) in (h.0, h.1)
 
 pub placed_at : (t : TraceValue) → AreInPlace t → (i : ℕ) (e : EntryValue) → slice_get t.entries i ≡ Some e
     → IsPlaced t.commit_lines e
@@ -95,15 +109,12 @@ module _ (t : TraceValue) (placed : AreInPlace t)
   not_own c i e at inside behind = not_at (line_of t c) e.line (λ same. apart i c e at inside (sym same))
 
   silent_by : (k j : ℕ) (x : EntryValue) → (x.line ≡ k → ⊥) → is_at k (open_snapshot t x) ≡ false
-      → is_at k (settling_line t x) ≡ false → IsSilent t k j x
-  silent_by k j x own opens settling = (
-    λ steps. silent_of t k steps j x (not_at k x.line own) opens settling,
-    λ is. let here : is_at k (settling_line t x) ≡ true = ap (is_at k) is ∙ at_itself k in absurd (true≢false (sym here ∙ settling)),
-  )
+      → is_at k (settling_line t x) ≡ false → IsSilent t (is_at k) j x
+  silent_by k j x own opens settling = (λ steps. silent_of t k steps j x (not_at k x.line own) opens settling, settling)
 
   -- at an entry's own line nothing is told of another
   pub silent_beside : (i : ℕ) (e : EntryValue) → slice_get t.entries i ≡ Some e → (j : ℕ) (x : EntryValue)
-      → slice_get t.entries j ≡ Some x → (j ≡ i → ⊥) → IsSilent t e.line j x
+      → slice_get t.entries j ≡ Some x → (j ≡ i → ⊥) → IsSilent t (is_at e.line) j x
   silent_beside i e at j x there differ =
       silent_by e.line j x (lines_differ i j e x at there differ)
       (opens_elsewhere t commits x (placed_at t placed j x there) e.line (λ inside same. apart i x.before e at inside same))
@@ -112,7 +123,7 @@ module _ (t : TraceValue) (placed : AreInPlace t)
 
   -- at a commit's line nothing is told of an entry behind it
   silent_behind : (c j : ℕ) (x : EntryValue) → c < length t.commits → slice_get t.entries j ≡ Some x → c < x.before
-      → IsSilent t (line_of t c) j x
+      → IsSilent t (is_at (line_of t c)) j x
   silent_behind c j x inside there lt =
       let up = line_earlier t commits x (placed_at t placed j x there) c lt in
       silent_by (line_of t c) j x (λ same. omega (arith, up, same))
@@ -122,7 +133,7 @@ module _ (t : TraceValue) (placed : AreInPlace t)
 
   -- nor of one in front of an earlier commit, which this one does not settle
   silent_before : (c j : ℕ) (x : EntryValue) → c < length t.commits → slice_get t.entries j ≡ Some x → x.before < c
-      → ¬ ((x.snapshot ≤ time_of t c) × ¬ IsReached t c x.snapshot) → IsSilent t (line_of t c) j x
+      → ¬ ((x.snapshot ≤ time_of t c) × ¬ IsReached t c x.snapshot) → IsSilent t (is_at (line_of t c)) j x
   silent_before c j x inside there lt unsettled =
       let later = line_later t commits x (placed_at t placed j x there) c (omega (arith, lt)) inside in
       silent_by (line_of t c) j x (λ same. omega (arith, later, same))
@@ -253,7 +264,7 @@ module _ (t : TraceValue) (placed : AreInPlace t)
 
       -- and of the others nothing is told
       pub silent_undue : (j : ℕ) (x : EntryValue) → slice_get t.entries j ≡ Some x → (Contains due j → ⊥)
-          → IsSilent t (line_of t m.commits) j x
+          → IsSilent t (is_at (line_of t m.commits)) j x
       silent_undue j x there undue = elim (cases_lt j m.entries) [
         | inr ge ↦ silent_behind m.commits j x next.there there (next.behind j x there ge)
         | inl lt ↦ elim (cases_lt j m.fresh) [
@@ -265,3 +276,25 @@ module _ (t : TraceValue) (placed : AreInPlace t)
               ])
         ]
       ]
+
+    -- ---- the end of the log
+
+    module _ (all : m.commits ≡ length t.commits) (every : m.entries ≡ length t.entries) (left : List ℕ)
+        (are : AreLeft m.waiting.keys left) where
+      unreached_left : (i : ℕ) → Contains left i → (e : EntryValue) × (slice_get t.entries i ≡ Some e)
+          × ¬ IsReached t (length t.commits) e.snapshot
+      unreached_left i there =
+          let waited = are.only i there in
+          let h = stands.waiting waited.0 i waited.1 in
+          (h.0, h.1, subst (λ (n : ℕ). ¬ IsReached t n h.0.snapshot) all (subst (λ (s : ℕ). ¬ IsReached t m.commits s) (sym h.3) h.4))
+
+      pub left_unreached : AreUnreached t left
+      left_unreached i d lt = unreached_left (get_or left i d) (All-contains_itself left i d lt)
+
+      -- of all others nothing is left to be told
+      pub silent_at_end : (j : ℕ) (x : EntryValue) → slice_get t.entries j ≡ Some x → (Contains left j → ⊥) → IsSilent t is_none j x
+      silent_at_end j x there gone =
+          let settles = settles_somewhere t commits x (placed_at t placed j x there) (λ unreached. gone (are.all (x.snapshot, j)
+          (stands.waits j x there (let lt = slice_get_within t.entries j x there in omega (arith, lt, every))
+          (subst (λ (n : ℕ). ¬ IsReached t n x.snapshot) (sym all) unreached)))) in
+          (λ steps. silent_left t steps j x settles, settles)

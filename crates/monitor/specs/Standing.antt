@@ -1,5 +1,5 @@
 -- Where a monitor stands between two lines of a trace.
-use Rattle.std.specs.Prelude.{◌≡◌, ℕ, ◌<◌, ◌≤◌, List, All, length, map, get_or, slice_get, Contains, Some}
+use Rattle.std.specs.Prelude.{◌≡◌, ℕ, ◌<◌, ◌≤◌, List, All, length, map, get_or, slice_get, Contains, Option, Some, None}
 use Rattle.version_chains.specs.Commits.{Commit}
 use Rattle.trace_lines.specs.Values.{EntryValue, TraceValue}
 use Rattle.monitor.specs.declared.monitor.Monitor.{Monitor}
@@ -48,3 +48,13 @@ pub record IsAtEnd (t : TraceValue) (m : Monitor) : Type 0 where
 -- entries of these numbers stand on lines before that of commit c
 abbrev pub StandBefore : TraceValue → ℕ → List ℕ → Type 0
 StandBefore t c is = All (λ i. (e : EntryValue) × (slice_get t.entries i ≡ Some e) × (e.before ≤ c)) is
+
+-- no commit reaches the snapshots of entries of these numbers
+abbrev pub AreUnreached : TraceValue → List ℕ → Type 0
+AreUnreached t is =
+    All (λ i. (e : EntryValue) × (slice_get t.entries i ≡ Some e) × ¬ IsReached t (length t.commits) e.snapshot) is
+
+-- entries of these numbers are to be looked at when a commit is taken, or at the end of the log
+abbrev pub AreToBeTold : TraceValue → Option ℕ → List ℕ → Type 0
+AreToBeTold t (Some c) is = (c < length t.commits) × StandBefore t c is
+AreToBeTold t None is = AreUnreached t is

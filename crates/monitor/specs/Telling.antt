@@ -1,5 +1,5 @@
 -- What is told at a line, by evidence for what is judged there.
-use Rattle.std.specs.Prelude.{◌≡◌, ◌==◌, ℕ, Bool, true, false, List, [], ◌∷◌, ◌++◌, get_or, slice_get, Option, Some, None, if◌then◌else◌}
+use Rattle.std.specs.Prelude.{◌≡◌, ◌==◌, ℕ, Bool, true, false, List, [], ◌∷◌, ◌++◌, get_or, slice_get, is_none, Option, Some, None, if◌then◌else◌}
 use Rattle.std.specs.List.{AllZip, flat_map}
 use Rattle.trace_lines.specs.Values.{EntryValue, TraceValue}
 use Rattle.evidence_check.specs.Evidences.{steps_of}
@@ -11,11 +11,14 @@ use Rattle.findings.specs.Findings.{found_where, on_line}
 use Rattle.findings.specs.declared.finding.Finding.{Finding}
 use Rattle.findings.specs.declared.finding.What.{What}
 use Rattle.findings.specs.declared.finding.What.TheVariants.{OpenSnapshot}
-use Rattle.follow_laws.specs.Told.{at_moments, is_at, moments, settling_line, told_on}
+use Rattle.monitor.specs.Standing.{line_of}
+use Rattle.follow_laws.specs.Told.{at_moments, is_at, moments, settling_line, told_from}
 
--- what is told of entry i, which is e, at line k, where its evidence has these steps
-abbrev pub told_of : TraceValue → ℕ → Option (List StepValue) → ℕ → EntryValue → List Finding
-told_of t k steps i e = on_line e.line (at_moments (is_at k) (moments t e) (found_where t (judged t e steps) i e))
+-- A test says at which moments something is told: at line k (`is_at k`), or at the end of the log (`is_none`).
+
+-- what is told of entry i, which is e, at such moments, where its evidence has these steps
+abbrev pub told_of : TraceValue → (Option ℕ → Bool) → Option (List StepValue) → ℕ → EntryValue → List Finding
+told_of t test steps i e = on_line e.line (at_moments test (moments t e) (found_where t (judged t e steps) i e))
 
 -- ---- by steps that may be those for an entry
 
@@ -29,34 +32,41 @@ module _ (Allows : TraceValue → EntryValue → Option (List StepValue) → Typ
   IsJudgedIf true t e j = IsJudgedBy t e j
   IsJudgedIf false t e j = j ≡ Supported
 
-  -- the same by steps that are made for it, where line k settles it
-  abbrev pub IsToldOf : TraceValue → ℕ → ℕ → EntryValue → List Finding → Type 0
-  IsToldOf t k i e told =
-      (steps : Option (List StepValue)) × (settling_line t e ≡ Some k → Allows t e steps)
-      × (told ≡ told_of t k steps i e)
+  -- the same by such steps, where it is settled at such a moment
+  abbrev pub IsToldOf : TraceValue → (Option ℕ → Bool) → ℕ → EntryValue → List Finding → Type 0
+  IsToldOf t test i e told =
+      (steps : Option (List StepValue)) × (test (settling_line t e) ≡ true → Allows t e steps)
+      × (told ≡ told_of t test steps i e)
 
-  -- for each entry that line k settles there are steps that are made for it
-  abbrev pub AreMadeAt : TraceValue → ℕ → List (Option (List StepValue)) → Type 0
-  AreMadeAt t k given =
-      (i : ℕ) (e : EntryValue) → slice_get t.entries i ≡ Some e → settling_line t e ≡ Some k → Allows t e (steps_of given i)
+  -- for each entry that is settled at such a moment there are such steps
+  abbrev pub AreAllowedAt : TraceValue → (Option ℕ → Bool) → List (Option (List StepValue)) → Type 0
+  AreAllowedAt t test given =
+      (i : ℕ) (e : EntryValue) → slice_get t.entries i ≡ Some e → test (settling_line t e) ≡ true
+      → Allows t e (steps_of given i)
 
-  -- what is told when line k is taken, by such steps
-  abbrev pub IsToldAt : TraceValue → ℕ → List Finding → Type 0
-  IsToldAt t k told = (given : List (Option (List StepValue))) × AreMadeAt t k given × (told ≡ told_on t given k)
+  -- the findings are those from before, and what is told of all entries at such moments, by such steps
+  abbrev pub TellsWhen : TraceValue → (Option ℕ → Bool) → List Finding → List Finding → Type 0
+  TellsWhen t test old new =
+      (given : List (Option (List StepValue))) × AreAllowedAt t test given
+      × (new ≡ old ++ told_from test t given 0 t.entries)
 
-  -- the findings are those from before, and what is told at line k
+  -- and what is told when line k is taken (`told_on`)
   abbrev pub Tells : TraceValue → ℕ → List Finding → List Finding → Type 0
-  Tells t k old new = (told : List Finding) × IsToldAt t k told × (new ≡ old ++ told)
+  Tells t k old new = TellsWhen t (is_at k) old new
 
-  -- the findings are those from before, and what is told of entry i, which is e, at line k
-  abbrev pub TellsOf : TraceValue → ℕ → ℕ → EntryValue → List Finding → List Finding → Type 0
-  TellsOf t k i e old new = (told : List Finding) × IsToldOf t k i e told × (new ≡ old ++ told)
+  -- and what is told at the end of the log (`left_over`)
+  abbrev pub TellsLeft : TraceValue → List Finding → List Finding → Type 0
+  TellsLeft t old new = TellsWhen t is_none old new
+
+  -- the findings are those from before, and what is told of entry i, which is e, at such moments
+  abbrev pub TellsOf : TraceValue → (Option ℕ → Bool) → ℕ → EntryValue → List Finding → List Finding → Type 0
+  TellsOf t test i e old new = (told : List Finding) × IsToldOf t test i e told × (new ≡ old ++ told)
 
   -- the same of each entry of these numbers, one behind the other
-  abbrev pub TellsOfEach : TraceValue → ℕ → List ℕ → List Finding → List Finding → Type 0
-  TellsOfEach t k is old new =
+  abbrev pub TellsOfEach : TraceValue → (Option ℕ → Bool) → List ℕ → List Finding → List Finding → Type 0
+  TellsOfEach t test is old new =
       (parts : List (List Finding)) × AllZip (λ i told. (e : EntryValue) × (slice_get t.entries i ≡ Some e)
-      × IsToldOf t k i e told) is parts × (new ≡ old ++ flat_map (λ part. part) parts)
+      × IsToldOf t test i e told) is parts × (new ≡ old ++ flat_map (λ part. part) parts)
 
 -- ---- as it is computed
 
@@ -75,3 +85,12 @@ if_names line _ = None
 abbrev pub told_at_commit : List (Option What) → ℕ → List (Option What)
 told_at_commit found line =
     None ∷ None ∷ None ∷ if_names line (get_or found 3 None) ∷ None ∷ None ∷ get_or found 6 None ∷ []
+
+-- what is found on an entry and told at the end of the log: what the judgement finds
+abbrev pub told_at_end : List (Option What) → List (Option What)
+told_at_end found = None ∷ None ∷ None ∷ None ∷ None ∷ None ∷ get_or found 6 None ∷ []
+
+-- the moments of a commit's line, or of the end of the log
+abbrev pub moment_of : TraceValue → Option ℕ → Option ℕ → Bool
+moment_of t (Some c) = is_at (line_of t c)
+moment_of t None = is_none

@@ -23,3 +23,9 @@ pub record AreDue (at from end : ℕ) (old new : List (ℕ × ℕ)) (due : List 
   pub only : (i : ℕ) → Contains due i → IsBetween from end i ⊎ IsAwaited at old i
   pub kept : (q : ℕ × ℕ) → Contains new q → Contains old q
   pub later : (q : ℕ × ℕ) → Contains new q → at < q.0
+
+-- Left are the numbers of all that waited, in their order.
+pub record AreLeft (waiting : List (ℕ × ℕ)) (left : List ℕ) : Type 0 where
+  pub rising : IsStrictlyIncreasing left
+  pub all : (q : ℕ × ℕ) → Contains waiting q → Contains left q.1
+  pub only : (i : ℕ) → Contains left i → (s : ℕ) × Contains waiting (s, i)

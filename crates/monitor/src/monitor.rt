@@ -1,15 +1,16 @@
 //! What is told of a log, line by line.
 
-ghost use Rattle.std.specs.Prelude.{◌≡◌, ◌<◌, ◌≤◌, ◌+◌, ◌++◌, ◌^◌, ℕ, true, false, length, slice_get, get_or, map, Contains, Option, None, Some, IfOk, IfSome, OnOk, List};
+ghost use Rattle.std.specs.Prelude.{◌≡◌, ◌<◌, ◌≤◌, ◌+◌, ◌++◌, ◌^◌, ℕ, true, false, length, slice_get, is_none, [], ◌∷◌, None, Some, IfOk, IfSome, OnOk};
 ghost use Rattle.trace_lines.specs.EntryViews.{entry_value};
 ghost use Rattle.trace_lines.specs.Values.{EntryValue, TraceValue};
 ghost use Rattle.evidence_check.specs.Judged.{judged};
 ghost use Rattle.evidence_check.specs.Steps.{StepValue};
-ghost use Rattle.monitor.specs.Standing.{IsAtEnd, IsCommitNext, IsEntryNext, IsReached, StandBefore, Stands, line_of, time_of};
-ghost use Rattle.monitor.specs.Telling.{IsJudgedIf, Tells, TellsOf, TellsOfEach, if_names, told_at_commit, told_at_once};
+ghost use Rattle.monitor.specs.Standing.{AreToBeTold, IsAtEnd, IsCommitNext, IsEntryNext, IsReached, Stands, line_of, time_of};
+ghost use Rattle.follow_laws.specs.Told.{is_at};
+ghost use Rattle.monitor.specs.Telling.{IsJudgedIf, Tells, TellsLeft, TellsOf, TellsOfEach, if_names, moment_of, told_at_commit, told_at_end, told_at_once};
 
 use crate::judge::Judge;
-use crate::waiting::due;
+use crate::waiting::{due, left};
 use evidence_check::Judged;
 use findings::{Finding, What, found_where, push_found};
 use std::alloc::{AllocError, Global};
@@ -63,6 +64,13 @@ fn at_commit(found: [Option<What>; 7], line: u64) -> [Option<What>; 7]
         None,
         found[6],
     ]
+}
+
+/// What is found on an entry and told at the end of the log.
+fn at_end(found: [Option<What>; 7]) -> [Option<What>; 7]
+    ensures { result ≡ told_at_end found }
+{
+    [None, None, None, None, None, None, found[6]]
 }
 
 /// As many entries and commits as a trace has are numbers of 64 bits. That is a law: it computes nothing.
@@ -121,7 +129,7 @@ fn tell_at_once<J: Judge>(
         → ¬ IsReached trace.now e.before e.snapshot }
     ensures judge { J.of judge.new ≡ J.of judge.old }
     ensures told { OnOk result ((e : EntryValue) → slice_get trace.now.entries i ≡ Some e
-        → TellsOf J.allows trace.now e.line i e told.old.items told.new.items) }
+        → TellsOf J.allows trace.now (is_at e.line) i e told.old.items told.new.items) }
 {
     stand_in_order(trace);
     entries_rise(trace);
@@ -143,7 +151,7 @@ fn tell_at_commit<J: Judge>(
     requires entry { (e : EntryValue) × (slice_get trace.now.entries i ≡ Some e) × (e.before ≤ c) }
     ensures judge { J.of judge.new ≡ J.of judge.old }
     ensures told { OnOk result ((e : EntryValue) → slice_get trace.now.entries i ≡ Some e
-        → TellsOf J.allows trace.now (line_of trace.now c) i e told.old.items told.new.items) }
+        → TellsOf J.allows trace.now (is_at (line_of trace.now c)) i e told.old.items told.new.items) }
 {
     stand_in_order(trace);
     entries_rise(trace);
@@ -154,23 +162,63 @@ fn tell_at_commit<J: Judge>(
     push_found(entry.line, &at_commit(found, trace.commit_line(c)), told)
 }
 
-/// Tells what is found on these entries and told at the line of commit `c`.
+/// Tells what the judgement finds of entry `i`, which no commit reaches.
+fn tell_at_end<J: Judge>(
+    trace: &Trace,
+    judge: &mut J,
+    i: usize,
+    told: &mut Vec<Finding>,
+) -> Result<(), AllocError>
+    requires judge { J.of judge.old ≡ trace.now }
+    requires entry { (e : EntryValue) × (slice_get trace.now.entries i ≡ Some e)
+        × ¬ IsReached trace.now (length trace.now.commits) e.snapshot }
+    ensures judge { J.of judge.new ≡ J.of judge.old }
+    ensures told { OnOk result ((e : EntryValue) → slice_get trace.now.entries i ≡ Some e
+        → TellsOf J.allows trace.now is_none i e told.old.items told.new.items) }
+{
+    stand_in_order(trace);
+    let judged = judge.judge(trace, i)?;
+    let found = found_where(trace, i, judged);
+    push_found(trace.entry(i).line, &at_end(found), told)
+}
+
+/// Tells what is found on entry `i` and told at the line of a commit, or at the end of the log.
+fn tell_at<J: Judge>(
+    trace: &Trace,
+    judge: &mut J,
+    i: usize,
+    commit: Option<usize>,
+    told: &mut Vec<Finding>,
+) -> Result<(), AllocError>
+    requires judge { J.of judge.old ≡ trace.now }
+    requires entry { AreToBeTold trace.now commit (i ∷ []) }
+    ensures judge { J.of judge.new ≡ J.of judge.old }
+    ensures told { OnOk result ((e : EntryValue) → slice_get trace.now.entries i ≡ Some e
+        → TellsOf J.allows trace.now (moment_of trace.now commit) i e told.old.items told.new.items) }
+{
+    match commit {
+        Some(c) => tell_at_commit(trace, judge, i, c, told),
+        None => tell_at_end(trace, judge, i, told),
+    }
+}
+
+/// Tells what is found on these entries and told at the line of a commit, or at the end of the log.
 fn tell_each<J: Judge>(
     trace: &Trace,
     judge: &mut J,
     mut due: BTreeSet<usize>,
-    c: usize,
+    commit: Option<usize>,
     told: &mut Vec<Finding>,
 ) -> Result<(), AllocError>
     requires judge { J.of judge.old ≡ trace.now }
-    requires commit { c < length trace.now.commits }
-    requires due { StandBefore trace.now c due.keys }
+    requires due { AreToBeTold trace.now commit due.keys }
     ensures judge { J.of judge.new ≡ J.of judge.old }
-    ensures told { OnOk result (TellsOfEach J.allows trace.now (line_of trace.now c) due.keys told.old.items told.new.items) }
+    ensures told { OnOk result
+        (TellsOfEach J.allows trace.now (moment_of trace.now commit) due.keys told.old.items told.new.items) }
 {
-    // an entry is due at most twice: at the first commit behind it, and at the one that settles it
+    // an entry is due at most twice: at the first commit behind it, and at the one that settles it or at the end
     while let Some(i) = due.pop_first() {
-        tell_at_commit(trace, judge, i, c, told)?;
+        tell_at(trace, judge, i, commit, told)?;
     }
     Ok(())
 }
@@ -263,7 +311,7 @@ impl Monitor {
         let c = self.commits;
         let at = trace.chains().commits()[c];
         let due = due(self.alloc, &mut self.waiting, at, self.fresh, self.entries)?;
-        tell_each(trace, judge, due, c, told)?;
+        tell_each(trace, judge, due, Some(c), told)?;
         self.fresh = self.entries;
         self.commits = c + 1;
         Ok(trace.commit_line(c))
@@ -294,5 +342,25 @@ impl Monitor {
             return Ok(Some(self.take_commit(trace, judge, told)?));
         }
         Ok(None)
+    }
+
+    /// Tells what is left at the end of a trace whose lines are all taken: how the entries are judged that no commit
+    /// reaches. It is refused only where memory runs out.
+    pub fn end<J: Judge>(
+        &mut self,
+        trace: &Trace,
+        judge: &mut J,
+        told: &mut Vec<Finding>,
+    ) -> Result<(), AllocError>
+        requires stands { Stands trace.now self.old }
+        requires all { IsAtEnd trace.now self.old }
+        requires judge { J.of judge.old ≡ trace.now }
+        ensures judge { J.of judge.new ≡ J.of judge.old }
+        ensures told { OnOk result (TellsLeft J.allows trace.now told.old.items told.new.items) }
+    {
+        stand_in_order(trace);
+        entries_rise(trace);
+        let left = left(self.alloc, &mut self.waiting)?;
+        tell_each(trace, judge, left, None, told)
     }
 }

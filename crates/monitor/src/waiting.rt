@@ -1,7 +1,7 @@
 //! Entries that wait for a commit at or above their snapshots.
 
 ghost use Rattle.std.specs.Prelude.{◌≡◌, IfOk, List, ◌≤◌};
-ghost use Rattle.monitor.specs.Waiting.{AreDue, IsPopped};
+ghost use Rattle.monitor.specs.Waiting.{AreDue, AreLeft, IsPopped};
 
 use std::alloc::{AllocError, Global};
 use std::collections::BTreeSet;
@@ -38,4 +38,18 @@ pub(crate) fn due(
         due.insert(i)?;
     }
     Ok(due)
+}
+
+/// The numbers of all that wait, which are let go.
+pub(crate) fn left(
+    alloc: Global,
+    waiting: &mut BTreeSet<(u64, usize)>,
+) -> Result<BTreeSet<usize>, AllocError>
+    ensures { IfOk result (λ left. AreLeft waiting.old.keys left.keys) }
+{
+    let mut left = BTreeSet::new(alloc);
+    while let Some((_, i)) = waiting.pop_first() {
+        left.insert(i)?;
+    }
+    Ok(left)
 }

@@ -4,6 +4,7 @@ use Rattle.std.proofs.lemmas.Bool.{true≢false}
 use Rattle.std.proofs.lemmas.Option.{same_Some}
 use Rattle.trace_lines.specs.EntryViews.{entry_value}
 use Rattle.trace_lines.specs.Values.{EntryValue}
+use Rattle.follow_laws.specs.Told.{is_at}
 use Rattle.monitor.specs.Standing.{IsEntryNext, IsReached, Stands}
 use Rattle.monitor.specs.declared.monitor.Monitor.{Monitor}
 use Rattle.monitor.proofs.StandingLemmas.{silent_beside, stands_behind_entry}
@@ -48,5 +49,5 @@ returns-clause-told g c =
     let i = c.args.self.now.entries in
     let e = entry_value c.entry-entry.result in
     let at = c.entry-entry.ensures.value in
-    told_one g.J.Judge.allows t e.line i e c.args.told.now.items c.tell_at_once.new.told.items at (c.in_ok-tell_at_once.ensures.told e at)
+    told_one g.J.Judge.allows t (is_at e.line) i e c.args.told.now.items c.tell_at_once.new.told.items at (c.in_ok-tell_at_once.ensures.told e at)
     (silent_beside t c.stand_in_order.ensures c.entries_rise.ensures i e at)
