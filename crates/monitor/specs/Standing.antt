@@ -1,5 +1,5 @@
 -- Where a monitor stands between two lines of a trace.
-use Rattle.std.specs.Prelude.{◌≡◌, ℕ, ◌<◌, ◌≤◌, List, All, length, map, get_or, slice_get, Contains, Option, Some, None}
+use Rattle.std.specs.Prelude.{◌≡◌, ℕ, ◌+◌, ◌<◌, ◌≤◌, ◌⊎◌, List, All, length, map, get_or, slice_get, Contains, Option, Some, None}
 use Rattle.version_chains.specs.Commits.{Commit}
 use Rattle.trace_lines.specs.Values.{EntryValue, TraceValue}
 use Rattle.monitor.specs.declared.monitor.Monitor.{Monitor}
@@ -39,6 +39,26 @@ pub record IsEntryNext (t : TraceValue) (m : Monitor) (e : EntryValue) : Type 0 
 pub record IsCommitNext (t : TraceValue) (m : Monitor) : Type 0 where
   pub there : m.commits < length t.commits
   pub behind : (i : ℕ) (e : EntryValue) → slice_get t.entries i ≡ Some e → m.entries ≤ i → m.commits < e.before
+
+-- the next entry is taken, which stands on line k
+pub record TakesEntry (t : TraceValue) (m n : Monitor) (k : ℕ) : Type 0 where
+  pub entry : EntryValue
+  pub there : slice_get t.entries m.entries ≡ Some entry
+  pub line : k ≡ entry.line
+  pub before : entry.before ≤ m.commits
+  pub entries : n.entries ≡ m.entries + 1
+  pub commits : n.commits ≡ m.commits
+
+-- the next commit is taken, which stands on line k, in front of all entries that were not taken
+pub record TakesCommit (t : TraceValue) (m n : Monitor) (k : ℕ) : Type 0 where
+  pub next : IsCommitNext t m
+  pub line : k ≡ line_of t m.commits
+  pub entries : n.entries ≡ m.entries
+  pub commits : n.commits ≡ m.commits + 1
+
+-- the next line that says something is taken, which is line k
+abbrev pub Takes : TraceValue → Monitor → Monitor → ℕ → Type 0
+Takes t m n k = TakesEntry t m n k ⊎ TakesCommit t m n k
 
 -- all entries and all commits were taken
 pub record IsAtEnd (t : TraceValue) (m : Monitor) : Type 0 where

@@ -3,10 +3,10 @@
 //!
 //! A [`Monitor`] holds how much of a trace it has taken, and the entries that wait for a commit at or above their
 //! snapshots, by snapshot: so a commit looks at those alone that it settles, and at those that came since the commit
-//! before it. [`Monitor::take`] takes the next line, and [`Monitor::end`] tells what is left behind the last. A [`Judge`]
-//! says how the evidence for an entry judges it, whoever made that. Contracts see where a monitor stands in a trace as
-//! `Stands` (`specs/Standing.antt`), and what is told as `Tells` and `TellsLeft` (`specs/Telling.antt`), in the words of
-//! `follow_laws`.
+//! before it. [`Monitor::take`] takes the next line, and [`Monitor::end`] tells what is left behind the last. A
+//! [`Judge`] says how the evidence for an entry judges it, whoever made that. Contracts see where a monitor stands in a
+//! trace as `Stands` (`specs/Standing.antt`), and what is told as `Tells` and `TellsLeft` (`specs/Telling.antt`), in the
+//! words of `follow_laws`.
 //!
 //! Callers may rely on this: at each line it tells exactly what `told_on` says of that line, and at the end what
 //! `left_over` says, by evidence that the judge allows for what is judged there, in the order of the entries: nothing

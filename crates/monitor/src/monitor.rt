@@ -5,7 +5,7 @@ ghost use Rattle.trace_lines.specs.EntryViews.{entry_value};
 ghost use Rattle.trace_lines.specs.Values.{EntryValue, TraceValue};
 ghost use Rattle.evidence_check.specs.Judged.{judged};
 ghost use Rattle.evidence_check.specs.Steps.{StepValue};
-ghost use Rattle.monitor.specs.Standing.{AreToBeTold, IsAtEnd, IsCommitNext, IsEntryNext, IsReached, Stands, line_of, time_of};
+ghost use Rattle.monitor.specs.Standing.{AreToBeTold, IsAtEnd, IsCommitNext, IsEntryNext, IsReached, Stands, Takes, TakesCommit, TakesEntry, line_of, time_of};
 ghost use Rattle.follow_laws.specs.Told.{is_at};
 ghost use Rattle.monitor.specs.Telling.{IsJudgedIf, Tells, TellsLeft, TellsOf, TellsOfEach, if_names, moment_of, told_at_commit, told_at_end, told_at_once};
 
@@ -273,6 +273,7 @@ impl Monitor {
         requires stands { Stands trace.now self.old }
         requires next { (e : EntryValue) × IsEntryNext trace.now self.old e }
         requires judge { J.of judge.old ≡ trace.now }
+        ensures takes { IfOk result (TakesEntry trace.now self.old self.new) }
         ensures stands { OnOk result (Stands trace.now self.new) }
         ensures judge { J.of judge.new ≡ J.of judge.old }
         ensures told { IfOk result (λ k. Tells J.allows trace.now k told.old.items told.new.items) }
@@ -301,6 +302,7 @@ impl Monitor {
         requires stands { Stands trace.now self.old }
         requires next { IsCommitNext trace.now self.old }
         requires judge { J.of judge.old ≡ trace.now }
+        ensures takes { IfOk result (TakesCommit trace.now self.old self.new) }
         ensures stands { OnOk result (Stands trace.now self.new) }
         ensures judge { J.of judge.new ≡ J.of judge.old }
         ensures told { IfOk result (λ k. Tells J.allows trace.now k told.old.items told.new.items) }
@@ -329,9 +331,11 @@ impl Monitor {
     ) -> Result<Option<u64>, AllocError>
         requires stands { Stands trace.now self.old }
         requires judge { J.of judge.old ≡ trace.now }
+        ensures takes { IfOk result (λ line. IfSome line (Takes trace.now self.old self.new)) }
         ensures stands { OnOk result (Stands trace.now self.new) }
         ensures judge { J.of judge.new ≡ J.of judge.old }
-        ensures told { IfOk result (λ line. IfSome line (λ k. Tells J.allows trace.now k told.old.items told.new.items)) }
+        ensures told { IfOk result
+            (λ line. IfSome line (λ k. Tells J.allows trace.now k told.old.items told.new.items)) }
         ensures all { IfOk result (λ line. line ≡ None → IsAtEnd trace.now self.new
             × (self.new ≡ self.old) × (told.new.items ≡ told.old.items)) }
     {

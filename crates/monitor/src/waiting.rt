@@ -30,7 +30,7 @@ pub(crate) fn due(
     ensures { IfOk result (λ due. AreDue at from end waiting.old.keys waiting.new.keys due.keys) }
 {
     let mut due = BTreeSet::new(alloc);
-    // Each entry is in such a range once, and waits once: so all calls together take as many turns as there are entries.
+    // each entry is in such a range once, and waits once: so all calls together take two turns for an entry at most
     for i in from..end {
         due.insert(i)?;
     }
