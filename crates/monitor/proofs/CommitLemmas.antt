@@ -239,6 +239,21 @@ module _ (t : TraceValue) (placed : HasPlacedCommits t) where
             ap (is_at k) (settling_first d first) ∙ not_at k (max e.line (line_of t d)) (λ same. omega (arith, lt, same))
         by_first (inr none) = ap (is_at k) (settling_none none)
 
+    -- the line that settles it is its own or a commit's
+    pub settles_at_event : (l : ℕ) → settling_line t e ≡ Some l
+        → (l ≡ e.line) ⊎ ((c : ℕ) × (c < length t.commits) × (l ≡ line_of t c))
+    settles_at_event l is = by_first (first_or_none e.snapshot t.commits)
+      where
+        by_first : ((d : ℕ) × IsFirst e.snapshot t.commits d) ⊎ ((j : ℕ) → j < length t.commits → time_of t j < e.snapshot)
+            → (l ≡ e.line) ⊎ ((c : ℕ) × (c < length t.commits) × (l ≡ line_of t c))
+        by_first (inl (d, first)) =
+            let same : max e.line (line_of t d) ≡ l = let h = sym (settling_first d first) ∙ is in cc in
+            elim (cases_lt e.line (line_of t d)) [
+              | inl lt ↦ inr (d, first.inside, omega (arith, lt, same))
+              | inr ge ↦ inl (omega (arith, ge, same))
+            ]
+        by_first (inr none) = let h = sym (settling_none none) ∙ is in absurd cc
+
     -- an entry that no commit reaches is settled nowhere
     pub settles_never : ¬ IsReached t (length t.commits) e.snapshot → settling_line t e ≡ None
     settles_never unreached = by_first (first_or_none e.snapshot t.commits)

@@ -1,5 +1,6 @@
 pub mod CommitLemmas
 pub mod GrowthLemmas
+pub mod RunLemmas
 pub mod StandingLemmas
 pub mod TellingLemmas
 pub mod WaitingLemmas

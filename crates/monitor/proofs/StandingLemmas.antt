@@ -112,6 +112,13 @@ module _ (t : TraceValue) (placed : AreInPlace t)
       → is_at k (settling_line t x) ≡ false → IsSilent t (is_at k) j x
   silent_by k j x own opens settling = (λ steps. silent_of t k steps j x (not_at k x.line own) opens settling, settling)
 
+  -- at a line that is neither its own nor a commit's nothing is told of an entry
+  pub silent_off : (k i : ℕ) (e : EntryValue) → slice_get t.entries i ≡ Some e → (e.line ≡ k → ⊥)
+      → ((c : ℕ) → c < length t.commits → line_of t c ≡ k → ⊥) → IsSilent t (is_at k) i e
+  silent_off k i e at own others =
+      silent_by k i e own (opens_elsewhere t commits e (placed_at t placed i e at) k (λ inside same. others e.before inside same))
+      (settles_not_at t commits e (placed_at t placed i e at) k own others)
+
   -- at an entry's own line nothing is told of another
   pub silent_beside : (i : ℕ) (e : EntryValue) → slice_get t.entries i ≡ Some e → (j : ℕ) (x : EntryValue)
       → slice_get t.entries j ≡ Some x → (j ≡ i → ⊥) → IsSilent t (is_at e.line) j x

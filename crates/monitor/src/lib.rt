@@ -24,6 +24,8 @@ mod judge;
 pub mod laws;
 mod monitor;
 mod waiting;
+mod whole;
 
 pub use judge::Judge;
 pub use monitor::Monitor;
+pub use whole::tell_all;

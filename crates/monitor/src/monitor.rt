@@ -226,7 +226,9 @@ fn tell_each<J: Judge>(
 impl Monitor {
     /// Nothing was taken.
     pub fn new(alloc: Global) -> Monitor
-        ensures { (t : TraceValue) → Stands t result }
+        ensures stands { (t : TraceValue) → Stands t result }
+        ensures entries { result.entries ≡ 0 }
+        ensures commits { result.commits ≡ 0 }
     {
         Monitor {
             alloc,
