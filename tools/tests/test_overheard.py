@@ -9,6 +9,7 @@ from collections import Counter
 from new_enemy_tools.importing import causes
 from new_enemy_tools.importing.times import nanoseconds, text_of_time
 from new_enemy_tools.recording import overheard
+from new_enemy_tools.recording.openfga import CONSISTENT
 from new_enemy_tools.recording.joining import Join
 from new_enemy_tools.recording.sketches import Given, JoinFault, Row
 from tests.stand_in_openfga import STORE
@@ -88,7 +89,7 @@ class Parts(Case):
         content = logged(15, {"contextual_tuples": {"tuple_keys": [KEY]}}, content={"version": "v"})
         rows = [untold, content, logged(15, {"consistency": 7}), logged(15, content={"version": "v", "token": at(1)}), logged(15, response={"allowed": 3})]
         made, _ = joined(log((10, "a")), rows)
-        self.assertEqual(self.places(made), [causes.UNREADABLE, causes.CONTEXTUAL, overheard.CONSISTENT, overheard.TOKEN, causes.UNREADABLE])
+        self.assertEqual(self.places(made), [causes.UNREADABLE, causes.CONTEXTUAL, CONSISTENT, overheard.TOKEN, causes.UNREADABLE])
         self.assertEqual([row.get("version") for row in made if row["event"] == "unmapped"],
                          [None, ["document", "d", "v"], None, ["document", "d", "v"], None])
 

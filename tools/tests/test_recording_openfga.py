@@ -41,7 +41,7 @@ class OpenFga(Recorded):
 
     def prepare(self):
         """What no client writes to later: documents that stay, and documents whose viewers were taken away."""
-        client = Client(self.service_port)
+        client = self.CLIENT(self.service_port)
         self.write(client, *[key(USERS[0], "owner", one) for one in FIXED + DOCUMENTS])
         for one in EARLY:
             self.write(client, *[key(user, "viewer", one) for user in USERS])
@@ -97,7 +97,7 @@ class Load(OpenFga):
         recorder = self.start_recorder(*words)
         self.run_clients(CLIENTS, REQUESTS, self.work)
         self.wait_for(lambda: self.recorded() + self.lost() == sum(self.decisions), lambda: str((self.recorded(), self.lost(), sum(self.decisions))))
-        lost, client = self.lost(), Client(self.port)
+        lost, client = self.lost(), self.CLIENT(self.port)
         for thing in DOCUMENTS:
             for user in USERS:
                 self.check(client, user, "viewer", thing, X_Content_Version=self.labels[thing][-1])

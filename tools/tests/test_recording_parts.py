@@ -9,12 +9,13 @@ from random import Random
 from unittest import mock
 
 from new_enemy_tools.importing.chained import end_of, head_of
+from new_enemy_tools.importing.reading import Bad
 from new_enemy_tools.importing.times import nanoseconds
 from new_enemy_tools.recording.http_reading import BODY, Head, Messages, Strange, path_of
 from new_enemy_tools.recording.log_files import LATER, InUse, LogFault, LogFiles, Place
 from new_enemy_tools.recording.lines import gap_line, line, write_line
 from new_enemy_tools.recording.messages import Beat, Bye, Ended, Lost, Started, Teller, messages_from
-from new_enemy_tools.recording.openfga import call_of as openfga_call
+from new_enemy_tools.recording.openfga import asks_for_newest, call_of as openfga_call
 from new_enemy_tools.recording.sequencer import Commit, Known, Sequencer
 from new_enemy_tools.recording.spicedb import call_of as spicedb_call
 from tests.support import Case
@@ -104,6 +105,16 @@ class Reading(Case):
         self.assertEqual(openfga_call("POST", "/prefix/stores/A/streamed-list-objects"), "stream")
         self.assertEqual([spicedb_call("POST", path) for path in ("/v1/permissions/check", "/a/v1/permissions/resources", "/v1/watch")],
                          ["check", "stream", None])
+
+
+class Demands(Case):
+    def test_by_a_name_or_a_number(self):
+        """As JSON of protobuf has either; a check whose demand is not known is no check without one."""
+        for given, newest in (None, False), ("HIGHER_CONSISTENCY", True), (200, True), ("MINIMIZE_LATENCY", False), (100, False), (0, False):
+            self.assertEqual(asks_for_newest({"consistency": given}), newest)
+        for given in "HIGHEST", 300, True, {}:
+            with self.assertRaises(Bad):
+                asks_for_newest({"consistency": given})
 
 
 class Order(Case):

@@ -8,8 +8,10 @@ from io import BufferedReader
 from typing import Any, BinaryIO, Iterator, NamedTuple, Optional
 
 SIZE = struct.Struct("<I")
-# Calls that decide, and are told when they begin; all others are told when they have ended.
+# Calls that decide.
 CHECKS = frozenset(("check", "batch", "list", "stream"))
+# Calls that are told when they are passed on.
+TOLD = CHECKS | {"write"}
 # So many bytes may wait for the keeper.
 ROOM = 64 << 20
 

@@ -5,7 +5,6 @@ state a reply was computed on, and its feed does not have the order of the commi
 have come (`places.py`): by the readings that did not show it and those that did, and by the write that made it, where that passed here.
 A check saw what had come when it was passed on, and nothing that came behind its answer.
 """
-import json
 import re
 from bisect import bisect_right
 from collections import deque
@@ -15,13 +14,16 @@ from typing import Any, Iterator, NamedTuple, Optional, Union
 
 from new_enemy_tools.importing.between import STATES
 from new_enemy_tools.importing.events import Relationship
+from new_enemy_tools.importing.openfga import CONSISTENCY
 from new_enemy_tools.importing.openfga_answers import answers_of, relationship_of
 from new_enemy_tools.importing.reading import Bad, get
 from new_enemy_tools.importing.refusals import Refusals
 from new_enemy_tools.importing.service import Answer, ServiceRules
 from new_enemy_tools.importing.times import nanoseconds
 from new_enemy_tools.recording.bearing import Bearing
-from new_enemy_tools.recording.core import Asked, Begun, Core, body_of
+from new_enemy_tools.recording.bodies import request_of, response_of
+from new_enemy_tools.recording.core import Asked, Begun, Core
+from new_enemy_tools.recording.grpc_calls import GRPC
 from new_enemy_tools.recording.lines import TUPLES, Came, base_lines, line, time_text, unmapped_line, write_line
 from new_enemy_tools.recording.log_files import Left, Place
 from new_enemy_tools.recording.messages import Ended, Started
@@ -31,9 +33,9 @@ from new_enemy_tools.recording.ruled import Takes, Unread, ruled
 from new_enemy_tools.recording.sequencer import Commit
 from new_enemy_tools.recording.stored import Stored
 
-PATH = re.compile(r"/stores/([^/]+)/(check|batch-check|list-objects|streamed-list-objects|list-users|write|authorization-models)")
+PATH = re.compile(r"/stores/([^/]+)/(check|batch-check|list-objects|streamed-list-objects|list-users|write)")
 CALLS = {"check": "check", "batch-check": "batch", "list-objects": "list", "list-users": "list", "streamed-list-objects": "stream",
-         "write": "write", "authorization-models": "rules"}
+         "write": "write"}
 # Of so many changes the times are remembered.
 TIMES = 100_000
 # Of so many changes it is remembered where each tuple's stand, for writes whose answers come later.
@@ -48,6 +50,7 @@ OPEN = 2 * 10 ** 9
 UNSHOWN = "a write was answered that the changes did not show within %g seconds"
 ODD = "changes of a tuple that do not come by turns"
 UNORDERED = "changes that came at once, in an order that is not known"
+CONSISTENT = "a check with an unknown consistency"
 Rules = tuple[Optional[ServiceRules], Refusals]
 Key = tuple[Relationship, bool]
 
@@ -346,7 +349,7 @@ class OpenFga:
         asked = self.open.pop(message.number, message.clock - (message.at - message.begun))
         if message.request is None or not 200 <= message.status < 300 or asked < self.first:
             return
-        request, keys = json.loads(message.request), []
+        request, keys = self._request(message), []
         for part, otherwise, live in ("writes", "on_duplicate", True), ("deletes", "on_missing", False):
             given = get(request, part)
             keys += [(relationship_of(one), live) for one in get(given, "tuple_keys") or ()
@@ -426,24 +429,28 @@ class OpenFga:
         return found
 
     def end(self, message: Ended, asked: Asked, core: Core) -> None:
-        is_ours = self.store is None or "/stores/%s/" % self.store in message.path
-        if message.call in ("write", "rules") or not is_ours:
-            core.forget(message.number)
-            if message.call == "write" and is_ours and core.is_ready:
+        if message.call == "write":
+            if core.is_ready:
                 self._note(message)
             self.open.pop(message.number, None)
             return
-        request, response = json.loads(message.request or b""), body_of(message)
-        if message.call == "stream":
-            response = {"objects": [get(get(one, "result"), "object") for one in response]}
-        answers = list(answers_of(request, response, Refusals()))
+        request = self._request(message)
+        answers = [] if request is None else list(answers_of(request, response_of(message), Refusals()))
         if not answers:
             core.forget(message.number)
             return
-        newest = message.save is not None or get(request, "consistency") == "HIGHER_CONSISTENCY"
+        newest = message.save is not None or asks_for_newest(request)
         since = asked.clock if newest else self._stale(asked.clock)
         token = None if message.token is None or newest and message.save is None else self._place_of(message.token)
         self.waits.append(Waiting(message, answers, since, newest, token, get(request, "authorization_model_id") or None))
+
+    def _request(self, message: Ended) -> Any:
+        """What a call asks of the store that is recorded, None where it is of another; over gRPC the request names it."""
+        is_over_grpc = message.encoding == GRPC
+        if self.store is not None and not is_over_grpc and "/stores/%s/" % self.store not in message.path:
+            return None
+        request = request_of(message)
+        return None if is_over_grpc and self.store not in (None, get(request, "store_id")) else request
 
     def _stale(self, clock: int) -> int:
         """When that was known which a check has seen at least that does not ask for the newest state."""
@@ -536,6 +543,14 @@ class OpenFga:
             if start <= end and model.id == one.model:
                 return Window(start, end)
         return window if one.model is None else "a check by another model than the latest"
+
+
+def asks_for_newest(request: object) -> bool:
+    """Whether a request asks for the newest state, by a name or a number; raises Bad where it can't be told."""
+    found = get(request, "consistency")
+    if isinstance(found, bool) or not isinstance(found, (str, int, type(None))) or found not in CONSISTENCY:
+        raise Bad(CONSISTENT)
+    return CONSISTENCY[found]
 
 
 def _spread(changes: list[Change], makers: list[Optional[Made]]) -> list[Optional[Made]]:

@@ -8,16 +8,17 @@ from collections import Counter
 from typing import Any, Iterable, Iterator, NamedTuple, Optional
 
 from new_enemy_tools.importing import causes, passing, printed
-from new_enemy_tools.importing.openfga import CONSISTENCY, OpenFgaLog
+from new_enemy_tools.importing.openfga import OpenFgaLog
 from new_enemy_tools.importing.openfga_answers import answers_of
 from new_enemy_tools.importing.reading import Bad, get
 from new_enemy_tools.importing.refusals import Refusals
 from new_enemy_tools.importing.service import Answer, content_of, text_or_none
 from new_enemy_tools.importing.times import nanoseconds, text_of_time
-from new_enemy_tools.recording.core import body_of, refuse_headers
+from new_enemy_tools.recording.bodies import body_of
+from new_enemy_tools.recording.core import refuse_headers
 from new_enemy_tools.recording.http_reading import path_of
 from new_enemy_tools.recording.messages import CHECKS, Ended
-from new_enemy_tools.recording.openfga import PATH, call_of
+from new_enemy_tools.recording.openfga import PATH, asks_for_newest, call_of
 from new_enemy_tools.recording.own_events import Own
 from new_enemy_tools.recording.reader import LABELS
 from new_enemy_tools.recording.sketches import JoinFault, Row, Value
@@ -31,7 +32,6 @@ OVER_GRPC = "a check over gRPC in a tap"
 CUT_SHORT = "a check whose body Envoy cut short"
 STREAMED = "a streamed list in a tap, of which it is not known when it ended"
 TOKEN = "a token beside a check that no recorder passed"
-CONSISTENT = "a check with an unknown consistency"
 # Keys by which an import places a line of the log.
 PLACES = ("snapshot", "snapshot_between", "token", "newest")
 
@@ -81,7 +81,7 @@ def _values(call: Call) -> Iterator[Value]:
     message = Ended(0, "", "", call.began, call.ended, 0, call.save, call.version, None, 200, None, None, None, call.why)
     try:
         refuse_headers(message, answers)
-        newest = call.save is not None or _newest(call.asked)
+        newest = call.save is not None or asks_for_newest(call.asked)
     except Bad as fault:
         if not answers:
             yield {**lost, "reason": str(fault), **_saved(call, None)}
@@ -95,13 +95,6 @@ def _values(call: Call) -> Iterator[Value]:
         said = {"saves": call.save, "shows": call.version, "model": get(call.asked, "authorization_model_id") or None}
         yield {"event": "asked", "store": call.store, "began": text_of_time(call.began), "ended": ended, "goal": list(answer.goal[:5]),
                "reply": answer.reply, "newest": newest, **{key: one for key, one in said.items() if one is not None}}
-
-
-def _newest(asked: object) -> bool:
-    found = get(asked, "consistency")
-    if isinstance(found, bool) or not isinstance(found, (str, int, type(None))) or found not in CONSISTENCY:
-        raise Bad(CONSISTENT)
-    return CONSISTENCY[found]
 
 
 def _saved(call: Call, answer: Optional[Answer]) -> dict[str, Any]:

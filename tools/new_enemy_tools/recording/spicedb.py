@@ -2,7 +2,6 @@
 
 A revision is the one in the service's tokens, or on PostgreSQL the number of a commit. A reply says by `checkedAt` which it was computed on.
 """
-import json
 import time
 from collections import deque
 from functools import partial
@@ -17,8 +16,8 @@ from new_enemy_tools.importing.spicedb_answers import answers_of, relationship_o
 from new_enemy_tools.importing.spicedb_schema import Parser
 from new_enemy_tools.importing.zedtokens import Older, Revision, Snapshot, read_revision
 from new_enemy_tools.recording.asking import FeedFault
-from new_enemy_tools.recording.grpc_calls import GRPC, decoded
-from new_enemy_tools.recording.core import Asked, Begun, Core, body_of
+from new_enemy_tools.recording.bodies import request_of, response_of
+from new_enemy_tools.recording.core import Asked, Begun, Core
 from new_enemy_tools.recording.lines import base_lines, write_line
 from new_enemy_tools.recording.log_files import Left, Place
 from new_enemy_tools.recording.messages import Ended, Started
@@ -128,10 +127,6 @@ def _demand(request: Any) -> Any:
     """The token that a request demands to be seen."""
     consistency = get(request, "consistency")
     return get(get(consistency, "atLeastAsFresh") or get(consistency, "atExactSnapshot"), "token")
-
-
-def _request_of(message: Ended) -> Any:
-    return json.loads(message.request or b"")
 
 
 def _traits(given: object) -> Optional[str]:
@@ -377,7 +372,7 @@ class SpiceDb:
     def end(self, message: Ended, asked: Asked, core: Core) -> None:
         if message.call == "write" and not 200 <= message.status < 300:
             return
-        request, response = decoded(message) if message.encoding == GRPC else (_request_of(message), body_of(message))
+        request, response = request_of(message), response_of(message)
         if message.call == "write":
             revision = revision_of(get(get(response, "writtenAt") or get(response, "deletedAt"), "token"))
             if revision.number is not None:
