@@ -530,9 +530,9 @@ class Daily(Crowd):
         return [one for recorder in self.all for one in recorder.checks], [row for lines, _ in self.days for row in lines]
 
 
-def given_of(name, lines):
+def given_of(name, lines, service="openfga"):
     """A log as a join takes it."""
-    head = {"event": "log", "number": 1, "service": "openfga"}
+    head = {"event": "log", "number": 1, "service": service}
     rows = [head, *(json.loads(one) for one in b"".join(lines).splitlines())]
     return Given(name, lambda: (Row(name, number, row) for number, row in enumerate(rows, 1)), True)
 

@@ -55,7 +55,7 @@ class Holds(Case):
             self.assertEqual(run(seed)[1].faults(), [], "seed %d" % seed)
 
     def test_the_command(self):
-        for words in ([], ["--joined"], ["--days"], ["--spicedb"]):
+        for words in ([], ["--joined"], ["--days"], ["--spicedb"], ["--own"]):
             run = subprocess.run([sys.executable, os.path.join(TOOLS, "dev", "simulate"), "--seeds", "20", *words], capture_output=True, text=True,
                                  timeout=300)
             self.assertEqual((run.returncode, run.stdout.splitlines()[-1]), (0, "20 passed, 0 failed"), run.stderr)

@@ -46,7 +46,7 @@ def words(arguments: list[str]) -> tuple[Parser, Namespace]:
     which.add_argument("--openfga", metavar="URL", help="where OpenFGA answers, as http://127.0.0.1:8080, or with --grpc its gRPC")
     which.add_argument("--spicedb", metavar="URL", help="where SpiceDB's HTTP gateway answers, or with --grpc its gRPC")
     parser.add_argument("--grpc", action="store_true", help="speak gRPC, which needs grpcio")
-    parser.add_argument("--changes-only", action="store_true", help="record the changes of OpenFGA alone, for checks that do not pass here")
+    parser.add_argument("--changes-only", action="store_true", help="record the changes alone, for checks that do not pass here")
     parser.add_argument("--listen", metavar="ADDRESS", help="where the application asks in place of the service, as 127.0.0.1:8090")
     parser.add_argument("--out", metavar="FOLDER", required=True, help="the folder of the log")
     parser.add_argument("--store", metavar="ID", help="the store of OpenFGA that is recorded, where there are several")
@@ -277,7 +277,7 @@ def service_of(settings: Settings) -> tuple[Service, Feed]:
     if settings.service == "openfga":
         made = openfga.OpenFga(settings.store, int(settings.stale * 1e9), int(settings.hold * 1e9), int(settings.horizon * 1e9), settings.only)
         return made, OpenFgaFeed(settings, source)
-    return spicedb.SpiceDb(), spicedb.Feed(source)
+    return spicedb.SpiceDb(settings.only), spicedb.Feed(source, settings.only)
 
 
 def keep(descriptor: int) -> int:
@@ -294,8 +294,6 @@ def main(arguments: list[str]) -> int:
         return keep(given.keep)
     if given.store is not None and not given.openfga:
         parser.error("--store goes with --openfga")
-    if given.changes_only and not given.openfga:
-        parser.error("--changes-only goes with --openfga")
     if given.changes_only == (given.listen is not None):
         parser.error("give either --listen or --changes-only")
     if given.changes_only and (given.tls_cert or given.share_port):
