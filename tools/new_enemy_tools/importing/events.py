@@ -4,6 +4,7 @@ from dataclasses import dataclass, field
 from typing import Any, Iterable, Iterator, NamedTuple, Optional, Union
 
 from new_enemy_tools.importing.checks import NEWEST
+from new_enemy_tools.importing.printed import hint_of
 from new_enemy_tools.importing.refusals import Refusals
 from new_enemy_tools.importing.times import nanoseconds
 from new_enemy_tools.keys import unread, unread_in_expression
@@ -331,7 +332,7 @@ def _unmapped(value: dict[str, Any], file: str, line: int, refusals: Refusals) -
 
 def _event(value: object, file: str, line: int, refusals: Refusals) -> Optional[Line]:
     if not isinstance(value, dict) or not isinstance(value.get("event"), str) or value["event"] not in KEYS:
-        raise _Fault("`event` is none of rules, write, check, content")
+        raise _Fault("`event` is none of rules, write, check, content%s" % hint_of(value))
     _refuse_unread(value, KEYS[value["event"]])
     if value["event"] in RECORDER:
         if not refusals.is_chained:

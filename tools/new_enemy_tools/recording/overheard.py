@@ -26,7 +26,6 @@ from new_enemy_tools.recording.reader import LABELS
 from new_enemy_tools.recording.sketches import JoinFault, Row, Value
 from new_enemy_tools.recording.spicedb import demanded_by
 
-TAP = "http_buffered_trace"
 OTHER_TAPS = ("http_streamed_trace_segment", "socket_buffered_trace", "socket_streamed_trace_segment")
 # The log's times may be cut to milliseconds; those of SpiceDB without a point are cut to seconds.
 CUT, SECOND = 1_000_000, 10 ** 9
@@ -64,7 +63,7 @@ def overheard(name: str, rows: Iterable[Row], took: int) -> Own:
     until, payloads = 0, Payloads()
     service: Optional[str] = None
     for row in rows:
-        is_tap = any(get(row.value, key) is not None for key in (TAP, *OTHER_TAPS))
+        is_tap = any(get(row.value, key) is not None for key in (printed.TAP, *OTHER_TAPS))
         is_payload = not is_tap and printed.Joining.takes(row.value)
         call = _tapped(row) if is_tap else payloads.call(row) if is_payload else _logged(row, took)
         if call is not None and service not in (None, "spicedb" if is_payload else "openfga"):
@@ -204,7 +203,7 @@ def _logged(row: Row, took: int) -> Any:
     if "raw_request" not in given and not isinstance(given.get("grpc_method"), str):
         if printed.is_own_log(given):
             return None
-        raise _fault(row, "no line of OpenFGA's log in JSON, and no tap of Envoy's tap filter (`%s`)" % TAP)
+        raise _fault(row, "no line of OpenFGA's log in JSON, and no tap of Envoy's tap filter (`%s`)" % printed.TAP)
     value = printed.unwrapped(given, OpenFgaLog.KEYS)
     _refuse_placed(row, value, "openfga")
     if passing.failure_of(value, OpenFgaLog.DECIDES) is not None:
@@ -230,7 +229,7 @@ def _tapped(row: Row) -> Any:
     other = next((key for key in OTHER_TAPS if get(row.value, key) is not None), None)
     if other is not None:
         raise _fault(row, "a tap of the kind `%s`; set `streaming: false` in the tap filter of HTTP" % other)
-    request, response = (get(get(row.value, TAP), part) for part in ("request", "response"))
+    request, response = (get(get(row.value, printed.TAP), part) for part in ("request", "response"))
     asked, answered = _headers(row, request), _headers(row, response)
     method, path = asked.get(":method", [""])[0], path_of(asked.get(":path", [""])[0])
     is_grpc = asked.get("content-type", [""])[0].startswith("application/grpc")
