@@ -5,11 +5,22 @@ import zlib
 from typing import Any
 
 from new_enemy_tools.importing.reading import Bad
+from new_enemy_tools.importing.refusals import Refusals
 from new_enemy_tools.recording.grpc_calls import GRPC, answered, asked
 from new_enemy_tools.recording.messages import Ended
 
 # An answer is read up to so many bytes, also where it comes compressed.
 BODY = 16 << 20
+
+
+class Unheard(Refusals):
+    """Takes what answers pass over, which nobody asks for here."""
+
+    def pass_over(self, kind: str) -> None:
+        """Nobody asks."""
+
+
+UNHEARD = Unheard()
 
 
 def _unpacked(data: bytes) -> bytes:

@@ -21,7 +21,7 @@ from new_enemy_tools.importing.refusals import Refusals
 from new_enemy_tools.importing.service import Answer, ServiceRules
 from new_enemy_tools.importing.times import nanoseconds
 from new_enemy_tools.recording.bearing import Bearing
-from new_enemy_tools.recording.bodies import request_of, response_of
+from new_enemy_tools.recording.bodies import UNHEARD, request_of, response_of
 from new_enemy_tools.recording.core import Asked, Begun, Core
 from new_enemy_tools.recording.grpc_calls import GRPC
 from new_enemy_tools.recording.lines import TUPLES, Came, base_lines, line, time_text, unmapped_line, write_line
@@ -104,6 +104,11 @@ class Made:
         self.number, self.keys, self.asked, self.answered, self.at = number, keys, asked, answered, at
 
 
+class Taint(NamedTuple):
+    why: str
+    until: int = 0
+
+
 class Model(NamedTuple):
     """A model and the revision from which on it is in force; one that can't be read has no id."""
 
@@ -136,8 +141,8 @@ class OpenFga:
         self.recent: deque[tuple[Key, int]] = deque()
         self.shown: dict[Key, deque[int]] = {}
         self.live: dict[Relationship, bool] = {}
-        # tuples of which it is not known whether they are there, and why
-        self.tainted: dict[Optional[Relationship], str] = {}
+        # tuples of which it is not known whether they are there, and why; and until when their changes may have come
+        self.tainted: dict[Optional[Relationship], Taint] = {}
         # of each change its time, or the latest before it, and its revision
         self.times: list[int] = []
         self.stands: list[int] = []
@@ -229,9 +234,9 @@ class OpenFga:
         if message.read.changes and self.last[1] and message.is_single and not self.horizon:
             # What one page showed came before what it did not show.
             self.places.lower(self.last[0], min(row.high for row in rows))
-        self._put_rows(rows, message, core)
+        self._put_rows(rows, message, odd, core)
         for change in odd:
-            self._taint(change.given, ODD)
+            self._taint(change.given, Taint(ODD, message.received))
         if message.rules is not None:
             self._take_rules(*message.rules, message, core)
             if message.read.changes:
@@ -293,26 +298,32 @@ class OpenFga:
                 row.low -= late - self.horizon
             self.horizon = late
 
-    def _put_rows(self, rows: list[Row], message: Changes, core: Core) -> None:
+    def _put_rows(self, rows: list[Row], message: Changes, odd: list[Change], core: Core) -> None:
         for row in rows:
             self.places.add([row])
             revision = self.places.revision
             came = self._came(row.low, row.high, core)
-            data = b"".join(self._line(change, revision, came) for change in row.changes)
+            data = b"".join(self._doubt(change, odd) + self._line(change, revision, came) for change in row.changes)
             commit = Commit(revision, data, message.received, changes=len(row.changes))
             if row is rows[-1]:
                 apart = tuple(sorted(one.revision for one in message.read.apart))
                 commit = commit._replace(cursor=message.read.cursor, behind=message.read.behind, apart=apart)
             core.put_commit(commit)
             for change in row.changes:
-                self._remember(change)
+                self._remember(change, row)
 
-    def _remember(self, change: Change) -> None:
+    def _remember(self, change: Change, row: Row) -> None:
         if change.given is not None:
             self.live[change.given] = change.live
-            self.tainted.pop(change.given, None)
+            self._clear(change.given, row)
             self.recent.append(((change.given, change.live), change.revision))
             self.shown.setdefault((change.given, change.live), deque()).append(change.revision)
+
+    def _doubt(self, change: Change, odd: list[Change]) -> bytes:
+        """Says in a log of the changes alone that it is not known what a change leaves, since no check passes here that could be a gap."""
+        if not self.tells or change.given is None or all(one is not change for one in odd):
+            return b""
+        return unmapped_line(ODD, str(change.given), change.given[:3])
 
     def _take_rules(self, rules: Optional[ServiceRules], refusals: Refusals, message: Changes, core: Core) -> None:
         revision = self.places.revision
@@ -397,7 +408,7 @@ class OpenFga:
         while self.made and self.made[0].answered < before:
             first = self.made.popleft()
             for key in first.keys:
-                self._taint(None if key is None else key[0], UNSHOWN % (self.hold / 1e9))
+                self._taint(None if key is None else key[0], Taint(UNSHOWN % (self.hold / 1e9)))
             lost = [one for one in self.waits if one.message.clock >= first.asked]
             self.waits = [one for one in self.waits if one.message.clock < first.asked]
             for one in lost:
@@ -407,12 +418,18 @@ class OpenFga:
             if asked < before:
                 del self.open[number]
 
-    def _taint(self, given: Optional[Relationship], why: str) -> None:
+    def _taint(self, given: Optional[Relationship], taint: Taint) -> None:
         if given is not None:
-            self.tainted[given] = why
+            self.tainted[given] = taint
             if len(self.tainted) > TAINTED:
                 # Too many to be told from others.
-                self.tainted = {None: why}
+                self.tainted = {None: taint}
+
+    def _clear(self, given: Relationship, row: Row) -> None:
+        """A tuple has changed again: where that came behind all before, it is as this change says. Else it may be one that was missed between two."""
+        taint = self.tainted.pop(given, None)
+        if taint is not None and row.low < taint.until:
+            self.tainted[given] = taint._replace(until=max(taint.until, row.high))
 
     # Calls
 
@@ -435,7 +452,7 @@ class OpenFga:
             self.open.pop(message.number, None)
             return
         request = self._request(message)
-        answers = [] if request is None else list(answers_of(request, response_of(message), Refusals()))
+        answers = [] if request is None else list(answers_of(request, response_of(message), UNHEARD))
         if not answers:
             core.forget(message.number)
             return
@@ -517,9 +534,9 @@ class OpenFga:
         if window.high - window.low >= STATES:
             return "more than %d changes came while a check was under way" % STATES
         goals = [answer.goal for answer in one.answers]
-        for given, why in self.tainted.items():
+        for given, taint in self.tainted.items():
             if any(self.bearing.bears(given, goal) for goal in goals):
-                return why
+                return taint.why
         if self.places.is_unsure(window, lambda row: True) and any(self._is_unsure(window, goal) for goal in goals):
             return UNORDERED
         low = min(self.places.surely(window, one.since, partial(self._bears, goal)) for goal in goals)

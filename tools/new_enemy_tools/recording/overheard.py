@@ -11,12 +11,11 @@ from typing import Any, Iterable, Iterator, NamedTuple, Optional
 from new_enemy_tools.importing import causes, openfga_answers, passing, printed, spicedb_answers
 from new_enemy_tools.importing.openfga import OpenFgaLog
 from new_enemy_tools.importing.reading import Bad, get
-from new_enemy_tools.importing.refusals import Refusals
 from new_enemy_tools.importing.spicedb import SpiceDbLog
 from new_enemy_tools.importing.spicedb_answers import revision_at
 from new_enemy_tools.importing.service import Answer, content_of, text_or_none
 from new_enemy_tools.importing.times import nanoseconds, text_of_time
-from new_enemy_tools.recording.bodies import body_of
+from new_enemy_tools.recording.bodies import UNHEARD, body_of
 from new_enemy_tools.recording.core import refuse_headers
 from new_enemy_tools.recording.http_reading import path_of
 from new_enemy_tools.recording.messages import CHECKS, Ended
@@ -87,7 +86,7 @@ def _values(call: Call) -> Iterator[Value]:
     ended = text_of_time(call.ended)
     lost = {"event": "unmapped", "store": call.store, "time": ended}
     try:
-        answers = [] if call.why is not None else list(ANSWERS[call.service](call.asked, call.answered, Refusals()))
+        answers = [] if call.why is not None else list(ANSWERS[call.service](call.asked, call.answered, UNHEARD))
     except Bad as fault:
         yield {**lost, "reason": causes.UNREADABLE, "detail": str(fault), **_saved(call, None)}
         return

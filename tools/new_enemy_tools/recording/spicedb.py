@@ -16,7 +16,7 @@ from new_enemy_tools.importing.spicedb_answers import answers_of, relationship_o
 from new_enemy_tools.importing.spicedb_schema import Parser
 from new_enemy_tools.importing.zedtokens import Older, Revision, Snapshot, read_revision
 from new_enemy_tools.recording.asking import FeedFault
-from new_enemy_tools.recording.bodies import request_of, response_of
+from new_enemy_tools.recording.bodies import UNHEARD, request_of, response_of
 from new_enemy_tools.recording.core import Asked, Begun, Core
 from new_enemy_tools.recording.lines import base_lines, line, time_text, write_line
 from new_enemy_tools.recording.log_files import Left, Place
@@ -409,7 +409,7 @@ class SpiceDb:
 
     def decided(self, message: Ended, request: Any, response: Any, asked: Asked, core: Core) -> None:
         """Puts the decisions of a call behind all that it saw, and behind all that was surely visible when it began."""
-        answers = list(answers_of(request, response, Refusals())) if response else []
+        answers = list(answers_of(request, response, UNHEARD)) if response else []
         if not answers:
             core.forget(message.number)
             return
