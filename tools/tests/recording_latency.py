@@ -149,9 +149,9 @@ def main(words):
     print("the service alone: %s" % shown(times))
     for one, (recorded, cost) in zip(recorders, ended):
         print("through the recorder of %s: %s" % (one.tools, shown(one.times)))
-        print("asked %d, recorded %d, of %d bytes each; processor time of a check %.2f ms" % (
-            len(one.times), len(recorded), sum(recorded) / len(recorded), cost))
-    print("processor time of a check: the service %.2f ms" % (1000 * used / (len(times) + sum(len(one.times) for one in recorders))))
+        print("asked %d, recorded %d, of %d bytes each" % (len(one.times), len(recorded), sum(recorded) / len(recorded)))
+        print("processor time of a check: the service %.2f ms, the recorder %.2f ms" % (
+            1000 * used / (len(times) + sum(len(one.times) for one in recorders)), cost))
 
 
 if __name__ == "__main__":
