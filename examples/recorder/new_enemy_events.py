@@ -1,8 +1,15 @@
-"""Tells an audit what an application asked OpenFGA, where no recorder stands in between. Copy this file; it needs Python 3.9 alone.
+"""Tells an audit what an application asked OpenFGA or SpiceDB, where no recorder stands in between. Copy this file; it needs Python 3.9 alone.
 
     events = Events("/var/log/app/events", store="01HVMMBCMGZNT3SED4Z17ECXCA")
     with events.asked("user:bob", "viewer", "document:plan", newest=True, shows="v2") as asked:
         asked.reply = client.check(...)
+
+Of SpiceDB there is no store, and each check says by which token it was answered:
+
+    events = Events("/var/log/app/events")
+    with events.asked("user:bob", "view", "document:plan", token=stored, shows="v2") as asked:
+        answer = client.CheckPermission(...)
+        asked.reply, asked.snapshot = answer.permissionship == 2, answer.checked_at.token
 
 Each process has a file of its own in the folder. `ne record --changes-only` records the changes meanwhile, and `ne join` puts both
 together; docs/RECORDING.md has the format. What fails here fails no request: it is counted on the next line that can be written.
@@ -21,32 +28,36 @@ def _text(at):
 
 
 class Asked:
-    """A check under way; `reply` is to be true or false when it has its answer. One without a reply records no decision."""
+    """A check under way; `reply` is to be true or false when it has its answer, and of SpiceDB `snapshot` the token `checked_at`. One without
+    a reply records no decision."""
 
-    reply = None
+    reply = snapshot = None
 
 
 class Events:
-    def __init__(self, folder, store):
+    def __init__(self, folder, store=None):
         os.makedirs(folder, exist_ok=True)
         now = time.time_ns()
         self.path = os.path.join(folder, "%d-%d.events" % (now, os.getpid()))
         self.lock, self.count, self.lost, self.since = threading.Lock(), 0, 0, now
         self.file = os.open(self.path, os.O_CREAT | os.O_EXCL | os.O_WRONLY | os.O_APPEND, 0o600)
-        self._write({"event": "own", "format": 1, "service": "openfga", "store": store, "time": _text(now)})
+        self.service = "spicedb" if store is None else "openfga"
+        self._write({"event": "own", "format": 1, "service": self.service, "store": store, "time": _text(now)})
 
     @contextlib.contextmanager
-    def asked(self, user, relation, object, newest=False, saves=None, shows=None, model=None):
-        """Around one check. `newest` says that HIGHER_CONSISTENCY was asked for; `saves` names the version that is saved after it, and
-        `shows` the one that is shown by it; `model` is the authorization model that the request names, if it names one. A check with
-        contextual tuples or a context for conditions is not to be told."""
+    def asked(self, user, relation, object, newest=False, saves=None, shows=None, model=None, token=None):
+        """Around one check. `newest` says that HIGHER_CONSISTENCY was asked for, or of SpiceDB fully_consistent; `saves` names the version
+        that is saved after it, and `shows` the one that is shown by it; `model` is the authorization model that the request names, if it names
+        one. `token` is what a request of SpiceDB demands, or with `saves` what is stored with the version, where that is not the snapshot. A
+        check with contextual tuples or a context for conditions or caveats is not to be told."""
         one, began = Asked(), time.time_ns()
         yield one
         ended = time.time_ns()
         if isinstance(one.reply, bool):
             thing, who = object.split(":", 1), user.split(":", 1)
-            self._tell({"event": "asked", "began": _text(began), "ended": _text(ended), "goal": [*thing, relation, *who], "reply": one.reply,
-                        "newest": newest, "saves": saves, "shows": shows, "model": model}, began, ended)
+            line = {"event": "asked", "began": _text(began), "ended": _text(ended), "goal": [*thing, relation, *who], "reply": one.reply,
+                    "newest": newest, "saves": saves, "shows": shows, "model": model, "token": token, "snapshot": one.snapshot}
+            self._tell(line, began, ended, one.snapshot is not None or self.service == "openfga")
 
     def close(self):
         """Says that all was told; a file without that is one of a process that was killed."""
@@ -54,9 +65,11 @@ class Events:
             self._write({"event": "over", "time": _text(time.time_ns()), "asked": self.count})
             os.close(self.file)
 
-    def _tell(self, line, began, ended):
+    def _tell(self, line, began, ended, is_whole):
         with self.lock:
             try:
+                if not is_whole:
+                    raise OSError("no snapshot")
                 if self.lost:
                     self._write({"event": "lost", "from": _text(self.since), "to": _text(ended), "count": self.lost})
                     self.lost = 0

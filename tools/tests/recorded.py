@@ -10,6 +10,7 @@ import threading
 import time
 from collections import Counter
 from random import Random
+from typing import Any
 
 from tests.ports import free_port
 from tests.support import TOOLS, Case
@@ -47,6 +48,7 @@ class Recorded(Case):
     """A test with processes, which all end with it. `RECORD` is the recorder: tools/record itself where it is the point when that gives up."""
 
     SERVICE = STAND_IN = ""
+    CLIENT: Any = Client
     PYTHON = sys.executable
     RECORD = os.path.join(TOOLS, "tests", "patient_recorder.py")
 
@@ -71,7 +73,8 @@ class Recorded(Case):
         return one
 
     def start_service(self, *words, port=0):
-        one = self.start(os.path.join(TOOLS, "tests", self.STAND_IN), str(port), *words, stdout=subprocess.PIPE)
+        name, *first = self.STAND_IN.split()
+        one = self.start(os.path.join(TOOLS, "tests", name), *first, str(port), *words, stdout=subprocess.PIPE)
         self.service_port = int(one.stdout.readline().split()[1])
         return one
 
@@ -141,7 +144,7 @@ class Recorded(Case):
         faults = []
 
         def run(number):
-            client, random = Client(self.port, key), Random("client %d" % number)
+            client, random = self.CLIENT(self.port, key), Random("client %d" % number)
             try:
                 for turn in range(requests):
                     work(client, random, number, turn)

@@ -1,9 +1,9 @@
-"""How much later answers come through tools/record: recording_latency.py [SECONDS [RATE [CONNECTIONS]]]
+"""How much later answers come through tools/record: recording_latency.py [SECONDS [RATE [CONNECTIONS [TOOLS ..]]]]
 
 A service that answers every check at once, and a client that asks so many checks a second over 16 connections, each at its time
-whether or not others have their answer; with a RATE of 0 each connection asks again as soon as it has its answer. It asks the service and the recorder by turns, a second each, and prints both; also what a check
-costs in processor time (the recorder's two processes together, and beside them the service, which is asked twice as often), and its bytes
-in the log.
+whether or not others have their answer; with a RATE of 0 each connection asks again as soon as it has its answer. It asks the service and
+the recorder of each folder of tools (of this one alone where none is given) by turns, a second each, and prints all; also what a check costs in
+processor time (a recorder's two processes together, and the service's), and its bytes in the log.
 """
 import asyncio
 import json
@@ -106,38 +106,52 @@ def shown(times):
     return "%d checks, p50 %.2f ms, p99 %.2f ms" % (len(listed), *(1000 * listed[int(len(listed) * part)] for part in (0.5, 0.99)))
 
 
+class Recorder:
+    """One of a folder of tools, in front of the service at a port, with what was asked through it."""
+
+    def __init__(self, tools, service, room, number):
+        self.tools, self.port, self.log, self.times = tools, free_port(), os.path.join(room, "log%d" % number), []
+        self.process = subprocess.Popen([sys.executable, os.path.join(tools, "record"), "--openfga", "http://127.0.0.1:%d" % service, "--listen",
+                                         "127.0.0.1:%d" % self.port, "--out", self.log], stderr=subprocess.PIPE, text=True)
+        self.process.stderr.readline()
+
+    def end(self):
+        """How long each line of a check is, and the processor time of one in milliseconds."""
+        recorded, until = [], time.monotonic() + PATIENCE
+        while len(recorded) < len(self.times) and time.monotonic() < until:
+            time.sleep(0.1)
+            with open(os.path.join(self.log, "000001.jsonl"), encoding="utf-8") as file:
+                recorded = [len(line) for line in file if '"event":"check"' in line]
+        self.process.terminate()
+        return recorded, 1000 * processor(self.process) / len(self.times)
+
+
 def main(words):
     if words == ["serve"]:
         asyncio.run(serve())
         return
-    seconds, rate, connections = map(int, [*words, *("20", "1000", str(CONNECTIONS))[len(words):]])
+    seconds, rate, connections = map(int, [*words[:3], *("20", "1000", str(CONNECTIONS))[len(words):]])
     with tempfile.TemporaryDirectory() as room:
         service = subprocess.Popen([sys.executable, __file__, "serve"], stdout=subprocess.PIPE, text=True)
-        port, through = int(service.stdout.readline()), free_port()
-        recorder = subprocess.Popen([sys.executable, os.path.join(TOOLS, "record"), "--openfga", "http://127.0.0.1:%d" % port, "--listen",
-                                     "127.0.0.1:%d" % through, "--out", os.path.join(room, "log")], stderr=subprocess.PIPE, text=True)
+        port, recorders, times = int(service.stdout.readline()), [], []
         try:
-            recorder.stderr.readline()
-            times = {port: [], through: []}
+            for number, tools in enumerate(words[3:] or [TOOLS]):
+                recorders.append(Recorder(tools, port, room, number))
             for turn in range(seconds):
-                for one in times:
-                    asyncio.run(load(one, times[one], 1, rate, turn * (rate or 1_000_000), connections))
-            recorded, until = [], time.monotonic() + PATIENCE
-            while len(recorded) < len(times[through]) and time.monotonic() < until:
-                time.sleep(0.1)
-                with open(os.path.join(room, "log", "000001.jsonl"), encoding="utf-8") as file:
-                    recorded = [len(line) for line in file if '"event":"check"' in line]
-            recorder.terminate()
-            used = processor(recorder)
+                for to, listed in ((port, times), *((one.port, one.times) for one in recorders)):
+                    asyncio.run(load(to, listed, 1, rate, turn * (rate or 1_000_000), connections))
+            ended = [one.end() for one in recorders]
         finally:
             service.terminate()
-            service_used = processor(service)
-            recorder.kill()
-    asked = len(times[through])
-    print("the service alone: %s" % shown(times[port]))
-    print("through the recorder: %s" % shown(times[through]))
-    print("asked %d, recorded %d, of %d bytes each" % (asked, len(recorded), sum(recorded) / len(recorded)))
-    print("processor time of a check: the service %.2f ms, the recorder %.2f ms" % (1000 * service_used / (len(times[port]) + asked), 1000 * used / asked))
+            used = processor(service)
+            for one in recorders:
+                one.process.kill()
+    print("the service alone: %s" % shown(times))
+    for one, (recorded, cost) in zip(recorders, ended):
+        print("through the recorder of %s: %s" % (one.tools, shown(one.times)))
+        print("asked %d, recorded %d, of %d bytes each" % (len(one.times), len(recorded), sum(recorded) / len(recorded)))
+        print("processor time of a check: the service %.2f ms, the recorder %.2f ms" % (
+            1000 * used / (len(times) + sum(len(one.times) for one in recorders)), cost))
 
 
 if __name__ == "__main__":

@@ -10,9 +10,12 @@ from unittest import mock
 
 from new_enemy_tools.recording.core import Core
 from new_enemy_tools.recording.lines import time_text
-from new_enemy_tools.recording.messages import Ended, Started
+from new_enemy_tools.recording.joining import Join
+from new_enemy_tools.recording.messages import Beat, Ended, Started
+from new_enemy_tools.recording.own_events import own_of
+from new_enemy_tools.recording.sketches import Given, Row
 from new_enemy_tools.recording.spicedb import Feed, SpiceDb, Watched
-from tests.simulation import GOALS, OPEN, STEP, TUPLES, WALL, Asked, Shape, World, holds
+from tests.simulation import GOALS, OPEN, STEP, TUPLES, WALL, Asked, Shape, World, given_of, holds
 from tests.stand_in_spicedb import FIRST, Numbers, Snapshots, relationship_of
 from tests.stand_in_spicedb import STEP as NEXT
 
@@ -191,6 +194,45 @@ class Tokens(World):
                   asked.shows and "v%d" % asked.shows.number)
 
 
+class Apart(Tokens):
+    """No request passes the recorder, which has the changes alone; an application says what it asked, and what the answers saw."""
+
+    def __init__(self, seed, shape):
+        super().__init__(seed, shape)
+        self.tokens, self.core = Numbers(), Core(SpiceDb(True), shape.hold / 1e9)
+        self.feed = Feed(self, True)
+        self.said = [{"event": "own", "format": 1, "service": "spicedb", "time": time_text(WALL)}]
+
+    def _tell(self, way, message):
+        if way == "feed" or isinstance(message, Beat):
+            super()._tell(way, message)
+
+    def _answer_write(self, number, asked, place):
+        """Nobody says it."""
+
+    def _end(self, number, call, path, asked, request, response, save=None, version=None):
+        consistency = request["consistency"]
+        row = {"event": "asked", "began": time_text(WALL + asked), "ended": time_text(WALL + self.now), "newest": "fullyConsistent" in consistency,
+               "goal": [*request["resource"].values(), request["permission"], *request["subject"]["object"].values()],
+               "reply": response["permissionship"] == "PERMISSIONSHIP_HAS_PERMISSION", "snapshot": response["checkedAt"]["token"]}
+        demanded = (consistency.get("atLeastAsFresh") or {}).get("token") if save is None else None
+        more = {"token": demanded, "saves": save, "shows": version}
+        self.said.append({**row, **{key: one for key, one in more.items() if one is not None}})
+
+    def run(self):
+        with mock.patch("new_enemy_tools.recording.spicedb.TOLD", 0):
+            super().run()
+        said = [*self.said, {"event": "over", "time": time_text(WALL + self.now), "asked": len(self.said) - 1}]
+        own = own_of(Given("own", lambda: (Row("own", number, row) for number, row in enumerate(said, 1)), True))
+        lines = b"".join(self.lines).splitlines(True)
+        if self.random.random() < 0.3:
+            # The log is still written.
+            first = next(place for place, one in enumerate(lines) if b'"event":"place"' in one)
+            lines = lines[:self.random.randint(first + 1, len(lines))]
+        self.lines = [json.dumps(row).encode() + b"\n" for row in Join([given_of("log", lines, "spicedb")], 0, [own]).lines()]
+        return self
+
+
 def relation_of(given):
     return relationship_of(("%s:%s" % given[:2], given[2], "%s:%s" % given[3:5], given[5] or ""))
 
@@ -225,6 +267,8 @@ class Verdict:
                     row["of"] = self.saved.get(row["version"])
             elif row["event"] == "gap":
                 self.lost += row.get("lost", 0)
+            elif row["event"] == "unmapped":
+                self.lost += "detail" in row
 
     def place(self, revision):
         if not isinstance(self.world.tokens, Snapshots):
@@ -298,8 +342,15 @@ def run_either(seed):
     return run(seed, shape)
 
 
-def run(seed, shape):
+def run(seed, shape, kind=Tokens):
     """The faults of one run."""
     shape.horizon = shape.stale = 0
-    world = Tokens(seed, shape).run()
+    world = kind(seed, shape).run()
     return world, Verdict(world)
+
+
+def run_apart(seed):
+    """The faults of one run where an application says what it asked, beside a log of the changes alone."""
+    shape = Shape(Random("shape %d" % seed))
+    shape.models = seed % 2 == 0
+    return run(seed, shape, Apart)

@@ -7,9 +7,10 @@ import grpc
 
 sys.path.insert(0, __file__.rsplit("/", 2)[0])
 
-from tests.spicedb_protobuf import decoder, encoder
+from tests.google_protobuf import SPICEDB_MESSAGES
 from tests.stand_in_spicedb import relationship_of
 
+encoder, decoder = SPICEDB_MESSAGES.encoder, SPICEDB_MESSAGES.decoder
 PERMISSIONS = "/authzed.api.v1.PermissionsService/"
 DOCUMENTS = ["d%d" % number for number in range(6)]
 USERS = ["u%d" % number for number in range(5)]

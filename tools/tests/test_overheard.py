@@ -9,12 +9,14 @@ from collections import Counter
 from new_enemy_tools.importing import causes
 from new_enemy_tools.importing.times import nanoseconds, text_of_time
 from new_enemy_tools.recording import overheard
+from new_enemy_tools.recording.openfga import CONSISTENT
 from new_enemy_tools.recording.joining import Join
 from new_enemy_tools.recording.sketches import Given, JoinFault, Row
 from tests.stand_in_openfga import STORE
 from tests.support import Case
 from tests.test_joining import events
-from tests.test_own_events import SECONDS, at, log
+from tests.stand_in_spicedb import wrapped
+from tests.test_own_events import SECONDS, TOKENS, at, log
 from tests.test_recording_openfga import EARLY, FIXED, MODEL, USERS, OpenFga, key
 
 KEY = {"object": "document:d", "relation": "viewer", "user": "user:a"}
@@ -43,6 +45,54 @@ def joined(log_rows, rows, took=3 * SECONDS, name="heard"):
     given = Given("log", lambda: (Row("log", number, row) for number, row in enumerate(log_rows, 1)), True)
     join = Join([given], 0, [overheard.overheard(name, [Row(name, number, row) for number, row in enumerate(rows, 1)], took)])
     return list(join.lines()), join.own[0].passed
+
+
+def payload(number, second, body=None, method="CheckPermission", **more):
+    """A line of SpiceDB's log: a request, or with a `checked_at` or as it is given a response."""
+    return {"level": "info", "grpc.service": "authzed.api.v1.PermissionsService", "grpc.method": method, "requestID": str(number), "time": at(second),
+            **({} if body is None else {"grpc.%s.content" % ("response" if "checked_at" in body else "request"): body}), **more}
+
+
+ASKED = {"resource": {"object_type": "document", "object_id": "d"}, "permission": "viewer",
+         "subject": {"object": {"object_type": "user", "object_id": "a"}}, "consistency": {"Requirement": {"FullyConsistent": True}}}
+
+
+def told(revision, permissionship=2):
+    return {"checked_at": {"token": str(revision)}, "permissionship": permissionship}
+
+
+class OfSpiceDb(Case):
+    """SpiceDB's log of requests and responses, beside a log of the changes alone."""
+
+    def test_what_is_taken(self):
+        """A request that waits for its response, a version on either line; the newest state that was known when the request came."""
+        made, passed = joined(TOKENS, [
+            payload(1, 5, ASKED), payload(2, 20, ASKED, content={"version": "v"}), payload(1, 6, told(1)), payload(2, 21, told(2)),
+            payload(3, 22, ASKED), payload(3, 23, told(1, 1), version="v"), payload(4, 24, ASKED), payload(5, 25, {}, "WriteRelationships"),
+            payload(5, 26, told(2), "WriteRelationships"), payload(6, 27, ASKED), payload(6, 28, **{"grpc.code": "Unavailable", "message": "finished call"})])
+        self.assertEqual([(row["event"], row["snapshot"] // 10 ** 10, row.get("version"), row["token"] // 10 ** 10, row["reply"]) for row in made
+                          if row["event"] in ("check", "content")],
+                         [("check", 1, None, 1, True), ("content", 2, "v", 2, True), ("check", 1, "v", 2, False)])
+        self.assertEqual(passed, {overheard.FAILED: 1, overheard.OTHER: 1, overheard.UNANSWERED: 1})
+
+    def test_what_can_not_be_placed_is_counted(self):
+        """A response whose request stands in an earlier file, tokens of PostgreSQL, a caveat's context, a reply that is not sure."""
+        token = wrapped(base64.b64encode(b"\x08\x05\x20\x05"))
+        made, _ = joined(TOKENS, [
+            payload(1, 5, told(1), content={"version": "v"}), payload(2, 5, ASKED), payload(2, 6, {**told(1), "checked_at": token}),
+            payload(3, 5, {**ASKED, "context": {"fields": {"x": 1}}}), payload(3, 6, told(1)), payload(4, 5, ASKED), payload(4, 6, told(1, 3))])
+        self.assertEqual(sorted(row["reason"] for row in made if row["event"] == "unmapped"), sorted([
+            causes.UNREADABLE, "a snapshot of PostgreSQL, which only ne import spicedb can place", causes.CONTEXT_OF_CAVEATS, causes.CONDITIONAL]))
+
+    def test_what_is_refused(self):
+        check = [payload(1, 5, ASKED), payload(1, 6, told(1))]
+        for rows, said in (([{key: one for key, one in check[0].items() if key != "time"}], "heard:1: the line has no `time` of RFC 3339"),
+                           ([check[0], {**check[1], "snapshot": 1}], "heard:2: a line with `snapshot` has its place already; give the log to ne import spicedb"),
+                           ([check[0], {**check[1], "verison": "v"}], "heard:2: unknown key \"verison\"; is \"version\" meant?"),
+                           ([*check, logged(15)], "heard:3: a line of another service than those before")):
+            with self.assertRaises(JoinFault) as found:
+                joined(TOKENS, rows)
+            self.assertEqual(str(found.exception), said)
 
 
 class Parts(Case):
@@ -88,7 +138,7 @@ class Parts(Case):
         content = logged(15, {"contextual_tuples": {"tuple_keys": [KEY]}}, content={"version": "v"})
         rows = [untold, content, logged(15, {"consistency": 7}), logged(15, content={"version": "v", "token": at(1)}), logged(15, response={"allowed": 3})]
         made, _ = joined(log((10, "a")), rows)
-        self.assertEqual(self.places(made), [causes.UNREADABLE, causes.CONTEXTUAL, overheard.CONSISTENT, overheard.TOKEN, causes.UNREADABLE])
+        self.assertEqual(self.places(made), [causes.UNREADABLE, causes.CONTEXTUAL, CONSISTENT, overheard.TOKEN, causes.UNREADABLE])
         self.assertEqual([row.get("version") for row in made if row["event"] == "unmapped"],
                          [None, ["document", "d", "v"], None, ["document", "d", "v"], None])
 

@@ -1,20 +1,27 @@
 """Events that an application writes itself, beside a log of the changes alone: ne record --changes-only, and ne join."""
 import importlib.util
+import json
 import os
 import time
+from collections import Counter
+from itertools import count
 from unittest import mock
 
-from new_enemy_tools.importing.times import nanoseconds
+from new_enemy_tools.importing.times import nanoseconds, text_of_time
 from new_enemy_tools.recording import own_events
 from new_enemy_tools.recording.joining import Join
-from new_enemy_tools.recording.own_events import BEFORE, BEHIND, OTHER, Timed, own_of
+from new_enemy_tools.recording.own_events import BEFORE, BEHIND, OTHER, Timed, Tokened, own_of
 from new_enemy_tools.recording.places import Places
-from new_enemy_tools.recording.sketches import Given, JoinFault, Row
+from new_enemy_tools.recording.sequencer import Known
+from new_enemy_tools.recording.sketches import FAR, Given, JoinFault, Row
+from tests.simulated_spicedb import run_apart as run_tokens_apart
 from tests.simulation import run_apart
+from tests.recorded import Client
 from tests.stand_in_openfga import STORE
 from tests.support import EXAMPLES, Case
 from tests.test_joining import change, events, lines
 from tests.test_recording_openfga import EARLY, FIXED, MODEL, USERS, OpenFga, key
+from tests.test_recording_spicedb import DOCUMENTS, FINDINGS, SpiceDb, at_least
 
 PLACE = os.path.join(EXAMPLES, "recorder", "new_enemy_events.py")
 SEEDS = 250
@@ -91,6 +98,102 @@ class Simulated(Case):
             self.assert_finds("a right reply is called wrong", stale=10 ** 7, faults=0)
 
 
+class OfSpiceDb(Case):
+    """The same of SpiceDB, whose answers say what they saw."""
+
+    def test_the_findings_are_those_of_the_truth(self):
+        recorded = lost = 0
+        for seed in range(SEEDS):
+            _, verdict = run_tokens_apart(seed)
+            self.assertEqual(verdict.faults(), [], "seed %d" % seed)
+            recorded, lost = recorded + len(verdict.entries), lost + verdict.lost
+        self.assertGreater(recorded, 3 * lost)
+
+    def assert_finds(self, fault, changed=None):
+        """By a recorder or a join that is wrong in a way."""
+        kept = Tokened.__init__
+
+        def made(self, *words):
+            kept(self, *words)
+            changed(self)
+        with mock.patch.object(Tokened, "__init__", made if changed else kept):
+            for seed in range(600):
+                if any(one.startswith(fault) for one in run_tokens_apart(seed)[1].faults()):
+                    return
+        self.fail(fault)
+
+    def test_rules_that_are_not_known_taken_for_known(self):
+        self.assert_finds("a right check is accused of a wrong reply", lambda placing: placing.sketch.unsure.clear())
+
+    def test_changes_that_the_log_does_not_have(self):
+        self.assert_finds("the log has another state at a snapshot than the service", lambda placing: setattr(placing, "reached", FAR))
+
+    def test_what_answers_had_shown(self):
+        with mock.patch.object(Known, "add", lambda *words: None):
+            self.assert_finds("a check passes without a stale answer")
+
+    def test_clocks_that_are_apart(self):
+        """What is known at one may not be at another."""
+        for began, token in (10, 1), (12, 2):
+            made = self.joined([asked_token(5, 8, 2), asked_token(began, 15, 1, newest=True)], 3)
+            self.assertEqual([row["token"] for row in made if row["event"] == "check" and row["snapshot"] == 1], [token])
+
+    def joined(self, rows, skew=0, log_rows=None):
+        head = {"event": "own", "format": 1, "service": "spicedb", "time": at(0)}
+        own = own_of(given("own", [head, *rows, {"event": "over", "time": at(49), "asked": len(rows)}]))
+        return [numbers_of(row) for row in Join([given("log", log_rows or TOKENS)], skew * SECONDS, [own]).lines()]
+
+    def test_what_can_not_be_placed_is_counted(self):
+        made = self.joined([asked_token(5, 6, 0), asked_token(5, 6, 1), asked_token(5, 6, 9), asked_token(5, 6, 2, token=str(9)),
+                             asked_token(41, 42, 2, newest=True)])
+        self.assertEqual(sorted(row.get("reason", "") for row in made if row["event"] in ("check", "unmapped")), ["", BEFORE, *[BEHIND] * 3])
+        self.assertEqual([row["snapshot"] for row in self.joined([asked_token(41, 42, 2)]) if row["event"] == "check"], [2])
+
+    def test_what_waits_for_a_change_that_was_given_and_is_not_logged(self):
+        """Watch gave nothing behind a check that asks for the newest state: what it should have seen is not known."""
+        self.assert_finds("a check passes without", lambda placing: setattr(placing, "until", FAR))
+
+    def test_content_stands_behind_what_was_known(self):
+        made = self.joined([asked_token(5, 6, 1, saves="v"), asked_token(20, 21, 1, saves="w"), asked_token(22, 23, 2, token="2", shows="w")])
+        self.assertEqual([(row["event"], row.get("version"), row.get("revision"), row.get("token")) for row in made
+                          if row["event"] in ("write", "content", "check")],
+                         [("write", None, 1, None), ("content", "v", None, 1), ("write", None, 2, None), ("content", "w", None, 1), ("check", "w", None, 2)])
+
+    def test_what_is_refused(self):
+        for row, told in ((asked_token(5, 6, 1, model="M"), "own:2: unknown key \"model\""),
+                          ({**asked_token(5, 6, 1), "snapshot": "x"}, "own:2: 'x' is no token with a revision that is a number"),
+                          ({key: one for key, one in asked_token(5, 6, 1).items() if key != "snapshot"},
+                           "own:2: the check has no `snapshot`, the token of its reply (`checkedAt`)")):
+            with self.assertRaises(JoinFault) as found:
+                self.joined([row])
+            self.assertEqual(str(found.exception), told)
+        with self.assertRaises(JoinFault) as found:
+            joined(TOKENS, said(asked(5, 6)))
+        self.assertEqual(str(found.exception), "own0 is of openfga, and the logs of spicedb")
+
+
+def given(name, rows):
+    return Given(name, lambda: (Row(name, number, row) for number, row in enumerate(rows, 1)), True)
+
+
+# A log of SpiceDB's changes alone: revisions 1 and 2, the second known at second 10, and nothing more came up to second 40.
+TOKENS = [{"event": "log", "number": 1, "service": "spicedb"},
+          {"event": "rules", "namespaces": [{"name": "document", "relations": [{"name": "viewer"}]}, {"name": "user", "relations": []}]},
+          {"event": "write", "revision": 10 ** 10, "base": True}, {"event": "read", "until": at(1), "revision": 10 ** 10}, {"event": "place"},
+          {"event": "write", "revision": 2 * 10 ** 10, "add": [["document", "d", "viewer", "user", "a"]], "time": at(10)},
+          {"event": "read", "until": at(10), "revision": 2 * 10 ** 10}, {"event": "read", "until": at(40), "revision": 2 * 10 ** 10}]
+
+
+def asked_token(began, ended, snapshot, **more):
+    row = {"event": "asked", "began": at(began), "ended": at(ended), "goal": ["document", "d", "viewer", "user", "a"], "reply": True}
+    return {**row, "snapshot": str(snapshot), **more}
+
+
+def numbers_of(row):
+    """A line with the service's numbers in place of those that rise also by its decimals."""
+    return {**row, **{key: row[key] // 10 ** 10 for key in ("revision", "snapshot", "token") if isinstance(row.get(key), int)}}
+
+
 class Parts(Case):
     def places(self, rows):
         return [row.get("newest_between") or row.get("reason") for row in rows if row["event"] in ("check", "content", "unmapped")]
@@ -137,7 +240,7 @@ class Parts(Case):
         for log_rows, rows, told in (
                 (log(), said(store="T"), "own0 is of the store T, and the logs of S"),
                 (plain, whole, "events of an application need a log of the changes: that of `ne record --changes-only`"),
-                (log(), whole[1:], "own0 does not begin with a line `own` of format 1, service openfga and a store"),
+                (log(), whole[1:], "own0 does not begin with a line `own` of format 1, and of service openfga with a store, or spicedb"),
                 (log(), whole[:1] + whole[2:], "own0:2: the file has 0 checks, and 1 were written: it was changed or cut"),
                 (log(), said({**asked(5, 8), "rely": True}), 'own0:2: unknown key "rely"; is "reply" meant?'),
                 (log(), said(asked(8, 5)), "own0:2: `began` and `ended` are no times of RFC 3339 in their order"),
@@ -221,6 +324,80 @@ class Processes(OpenFga):
         self.assertGreater(len(found), 5)
 
     def test_what_does_not_go_together(self):
-        for words in (["--spicedb", "http://x", "--changes-only"], ["--openfga", "http://x"], ["--openfga", "http://x", "--changes-only", "--listen", ":1"],
+        for words in (["--spicedb", "http://x", "--changes-only", "--tls-cert", "x"], ["--openfga", "http://x"], ["--openfga", "http://x", "--changes-only", "--listen", ":1"],
                       ["--openfga", "http://x", "--changes-only", "--share-port"]):
             self.assertEqual(self.run_process("record", *words, "--out", "log").returncode, 3, words)
+
+
+class SpiceDbProcesses(SpiceDb):
+    """What the service plants is found, and nothing else: by what an application says, and by the server's log of requests and responses."""
+
+    def setUp(self):
+        super().setUp()
+        self.start_service("0.1", "planted")
+        client = Client(self.service_port)
+        self.prepare(client)
+        client.close()
+        self.recorder = self.started("log", "--changes-only")
+        self.wait_for(lambda: "recording" in self.get("said") and self.of_kind("read"), lambda: self.get("said"))
+        self.port, self.versions = self.service_port, {}
+
+    def asked_along(self, told):
+        """Clients ask; `told` is called around each check with what is asked, and what the answer is."""
+        def work(client, random, number, turn):
+            user, thing = random.choice(USERS)[5:], random.choice(DOCUMENTS)
+            if turn % 5 == 0:
+                self.write(client, ("TOUCH", ("document:" + thing, "viewer", "user:" + user, "")))
+            permission, more = "view", {"token": self.versions.get(thing, (None, None))[1]}
+            if turn % 6 == 0:
+                user, permission, more = "u0", "edit", {"saves": "v%d.%d" % (number, turn)}
+            elif more["token"]:
+                more["shows"] = self.versions[thing][0]
+            consistency = at_least(more["token"]) if more.get("token") else {"fullyConsistent": True}
+            answer = told(client, user, permission, thing, consistency, {"newest": "fullyConsistent" in consistency, **more})
+            if "saves" in more and answer["permissionship"] == "PERMISSIONSHIP_HAS_PERMISSION":
+                self.versions[thing] = more["saves"], answer["checkedAt"]["token"]
+        self.run_clients(4, 60, work)
+        until = time.time_ns() + 20_000_000
+        self.wait_for(lambda: nanoseconds(self.of_kind("read")[-1]["until"]) > until)
+        self.end(self.recorder)
+
+    def assert_found(self, count, *own):
+        run = self.run_process("join", "--skew", "10", "--out", "all", "log", *own)
+        self.assertEqual((run.returncode, run.stderr), (0, ""))
+        said = self.import_log(folder="all")
+        planted = Counter((FINDINGS[kind], *goal) for kind, goal in map(json.loads, self.get("planted").splitlines()) if kind in FINDINGS)
+        goals = {"%s:%d" % (row["file"], row["line"]): row["goal"] for row in self.events("all") if "goal" in row}
+        found = Counter((kind, goals[place][1], goals[place][2], goals[place][4]) for place, kinds in self.found().items() for kind in kinds)
+        self.assertEqual(found, planted)
+        self.assertGreater(len(planted), 5)
+        self.assertEqual(len(self.of_kind("check", "all")) + len(self.of_kind("content", "all")), count)
+        return said
+
+    def test_what_an_application_says(self):
+        app = library().Events(self.path("events"))
+
+        def told(client, user, permission, thing, consistency, more):
+            with app.asked("user:" + user, permission, "document:" + thing, **more) as one:
+                _, answer = self.check(client, user, permission, thing, consistency)
+                one.reply, one.snapshot = answer["permissionship"] == "PERMISSIONSHIP_HAS_PERMISSION", answer["checkedAt"]["token"]
+            return answer
+        self.asked_along(told)
+        app.close()
+        said = self.assert_found(240, app.path).splitlines()
+        self.assertEqual([line.split(": ")[-1] for line in said if line.startswith(("gap", "checks"))], ["the log begins"])
+
+    def test_the_server_s_own_log(self):
+        rows, numbers = [], count(1)
+
+        def told(client, user, permission, thing, consistency, more):
+            line = {"level": "info", "grpc.method": "CheckPermission", "grpc.service": "authzed.api.v1.PermissionsService", "requestID": str(next(numbers))}
+            request = {"consistency": consistency, **self.asked(user, permission, thing)}
+            first = {**line, "time": text_of_time(time.time_ns()), "grpc.request.content": request}
+            _, answer = self.check(client, user, permission, thing, consistency)
+            named = {"version": more["shows"]} if "shows" in more else {"content": {"version": more["saves"]}} if "saves" in more else {}
+            rows.extend((first, {**line, "time": text_of_time(time.time_ns()), "grpc.response.content": answer, **named}))
+            return answer
+        self.asked_along(told)
+        self.put("payloads", [{"level": "info", "time": at(0), "message": "configured logging"}, *rows])
+        self.assertIn("payloads has no end, since its process runs or was killed", self.assert_found(240, "payloads"))

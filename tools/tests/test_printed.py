@@ -147,6 +147,18 @@ class OpenFga(LogCase):
         self.assertEqual(self.audited(), "entries 1\nfindings 0\nverdict clean\n")
 
 
+class OfOtherCommands(LogCase):
+    def test_what_another_command_reads_is_told_so(self):
+        """Envoy's taps, and what applications say of their checks."""
+        self.put("schema.zed", SCHEMA % VIEW)
+        hint = "; give it to `ne join`, beside a log of `ne record --changes-only`"
+        for line, words, said in (({"event": "own", "format": 1}, ("events",), "`event` is none of rules, write, check, content"),
+                                  ({"http_buffered_trace": {"request": {}}}, ("spicedb", "--schema", "schema.zed"),
+                                   "neither a response of Watch nor a check with its `request`")):
+            self.put("log", [line])
+            self.assertEqual(self.refused(*words, "--from-empty", "log"), ["log:1: %s%s" % (said, hint)])
+
+
 class SpiceDb(LogCase):
     def words(self, *lines, schema=SCHEMA % VIEW):
         self.put("schema.zed", schema)

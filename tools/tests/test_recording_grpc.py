@@ -13,12 +13,17 @@ from random import Random
 from types import ModuleType, SimpleNamespace
 from unittest import mock
 
-from new_enemy_tools.recording.grpc_calls import CALLS, decoded, joined
+from new_enemy_tools.recording.grpc_calls import CALLS, answered, asked, joined
 from new_enemy_tools.recording.messages import Ended
-from new_enemy_tools.recording.protobuf import SHAPES, Malformed, read, written
+from new_enemy_tools.recording import openfga_messages, spicedb_messages
+from new_enemy_tools.recording.protobuf import Malformed
+from tests import test_recording_openfga as over_http
 from tests.recorded import Recorded, counted
 from tests.support import TOOLS, Case
+from tests.stand_in_openfga import STORE
 from tests.test_recording_spicedb import CLIENTS, FINDINGS, REQUESTS
+
+OPENFGA, SPICEDB = openfga_messages.MESSAGES, spicedb_messages.MESSAGES
 
 
 def python_with_grpc():
@@ -28,14 +33,18 @@ def python_with_grpc():
     return None
 
 
+def use_grpc(case):
+    case.PYTHON = python_with_grpc()
+    if case.PYTHON is None:
+        case.skipTest("no Python here has grpcio and protobuf (python3-grpcio, python3-protobuf)")
+
+
 class Grpc(Recorded):
-    SERVICE, STAND_IN = "spicedb", "stand_in_spicedb_grpc.py"
+    SERVICE, STAND_IN = "spicedb", "stand_in_grpc.py spicedb"
 
     def setUp(self):
         super().setUp()
-        self.PYTHON = python_with_grpc()
-        if self.PYTHON is None:
-            self.skipTest("no Python here has grpcio and protobuf (python3-grpcio, python3-protobuf)")
+        use_grpc(self)
 
     def clients(self, *words):
         run = subprocess.run([self.PYTHON, os.path.join(TOOLS, "tests", "spicedb_grpc_clients.py"), str(self.port), *map(str, words)],
@@ -195,24 +204,102 @@ class Without(Case):
         self.assertEqual(run.stderr, "record: --grpc needs grpcio, in Debian the package python3-grpcio, for this Python (%s)\n" % sys.executable)
 
 
+class OpenFgaClient:
+    """Asks over gRPC, by a process, what a client over HTTP would ask."""
+
+    def __init__(self, port, key=None):
+        self.process = subprocess.Popen([python_with_grpc(), os.path.join(TOOLS, "tests", "openfga_grpc_client.py"), str(port)], text=True,
+                                        stdin=subprocess.PIPE, stdout=subprocess.PIPE)
+
+    def ask(self, path, body, **headers):
+        _, _, store, call = path.split("/")
+        metadata = [(name.replace("_", "-").lower(), value) for name, value in headers.items()]
+        name = "".join(one.title() for one in call.split("-"))
+        self.process.stdin.write(json.dumps([name, {"store_id": store, **body}, metadata]) + "\n")
+        self.process.stdin.flush()
+        return json.loads(self.process.stdout.readline())
+
+    def close(self):
+        self.process.stdin.close()
+        self.process.wait()
+        self.process.stdout.close()
+
+
+class OpenFgaOverGrpc(over_http.Load):
+    """What the tests over HTTP show of a thousand requests, over gRPC."""
+
+    STAND_IN, CLIENT = "stand_in_grpc.py openfga", OpenFgaClient
+
+    def setUp(self):
+        super().setUp()
+        use_grpc(self)
+
+    def start_recorder(self, *words, **more):
+        return super().start_recorder("--grpc", *words, **more)
+
+    def test_calls_that_are_not_taken(self):
+        """Of other stores nothing is recorded; contextual tuples and a consistency that is not known are told, and a list is its checks."""
+        self.start_service(over_http.MODEL)
+        recorder = self.start_recorder("--store", STORE)
+        client = OpenFgaClient(self.port)
+        self.write(client, over_http.key("user:u1", "viewer", "document:d1"), over_http.key("user:u1", "viewer", "document:d2"))
+        goal = over_http.key("user:u1", "viewer", "document:d1")
+        client.ask("/stores/other/check", {"tuple_key": goal})
+        self.call(client, "check", {"tuple_key": goal, "contextual_tuples": {"tuple_keys": [goal]}})
+        self.call(client, "check", {"tuple_key": goal, "consistency": 150})
+        self.assertEqual(self.call(client, "streamed-list-objects", {"type": "document", "relation": "viewer", "user": "user:u1",
+                                                                    "consistency": 200})[1], ["document:d1", "document:d2"])
+        self.wait_for(lambda: len(self.of_kind("check")) == 2 and self.lost() == 1)
+        client.close()
+        self.end(recorder)
+        self.assertEqual([row["goal"][1] for row in self.of_kind("check")], ["d1", "d2"])
+        self.assertEqual([row["reason"] for row in self.of_kind("unmapped")], ["contextual tuples"])
+        self.assertEqual([row["reason"] for row in self.of_kind("gap") if row.get("lost")], ["a check with an unknown consistency"])
+
+    def test_a_model_that_changes(self):
+        """By its id; the tuples that a new one takes are recorded."""
+        self.start_service(over_http.MODEL)
+        recorder = self.started("log", "--changes-only", "--grpc")
+        self.wait_for(lambda: "recording " in self.get("said"))
+        client = OpenFgaClient(self.service_port)
+        with open(over_http.MODEL, encoding="utf-8") as file:
+            self.assertEqual(client.ask("/stores/%s/write-authorization-model" % STORE, json.load(file))[0], 200)
+        self.wait_for(lambda: len(self.of_kind("rules")) == 2)
+        self.assertEqual(self.of_kind("rules")[0]["namespaces"], self.of_kind("rules")[1]["namespaces"])
+        client.close()
+        self.end(recorder)
+
+
 class Protobuf(Case):
     def test_what_is_written_is_read(self):
         body = {"optionalStartCursor": {"token": "x" * 300}, "optionalUpdateKinds": ["WATCH_KIND_INCLUDE_CHECKPOINTS"]}
-        self.assertEqual(read("WatchRequest", written("WatchRequest", body)), body)
+        self.assertEqual(SPICEDB.read("WatchRequest", SPICEDB.written("WatchRequest", body)), body)
 
     def test_bytes_that_are_no_message(self):
         for seed in range(3000):
             random = Random(seed)
             data = random.randbytes(random.randint(1, 30)) if sys.version_info >= (3, 9) else b""
+            for messages in OPENFGA, SPICEDB:
+                try:
+                    self.assertIsInstance(messages.read(random.choice(list(messages.shapes)), data), dict)
+                except Malformed:
+                    pass
+
+    def test_what_is_not_known_is_refused(self):
+        """Of OpenFGA a field that is not known, and one that stands twice; the answer of a check may have more."""
+        key = OPENFGA.written("TupleKey", {"user": "user:a", "relation": "viewer", "object": "document:1"})
+        told = []
+        for shape, data in ("TupleKey", key + b"\x2a\x01x"), ("CheckRequest", b"\x48\x01"), ("TupleKey", key + key), ("CheckResponse", b"\x48\x01\x08\x01"):
             try:
-                self.assertIsInstance(read(random.choice(list(SHAPES)), data), dict)
-            except Malformed:
-                pass
+                told.append(OPENFGA.read(shape, data))
+            except Malformed as fault:
+                told.append(str(fault))
+        self.assertEqual(told, ["TupleKey has a field that is not known (5)", "CheckRequest has a field that is not known (9)",
+                                "TupleKey has a field twice (user)", {"allowed": True}])
 
     def test_messages_of_a_call(self):
-        path = next(path for path, call in CALLS.items() if call.kind == "stream")
-        request = written("LookupResourcesRequest", {"permission": "view", "resourceObjectType": "document"})
-        answers = [written("LookupResourcesResponse", {"resourceObjectId": one}) for one in ("a", "b")]
+        path = next(path for path, call in CALLS.items() if call.name == "LookupResources")
+        request = SPICEDB.written("LookupResourcesRequest", {"permission": "view", "resourceObjectType": "document"})
+        answers = [SPICEDB.written("LookupResourcesResponse", {"resourceObjectId": one}) for one in ("a", "b")]
         message = Ended(1, "stream", path, 0, 0, 0, None, None, None, 200, joined([request]), joined(answers), "grpc")
-        asked, found = decoded(message)
-        self.assertEqual((asked["permission"], [one["resourceObjectId"] for one in found]), ("view", ["a", "b"]))
+        self.assertEqual((asked(message)["permission"], [one["resourceObjectId"] for one in answered(message)]), ("view", ["a", "b"]))

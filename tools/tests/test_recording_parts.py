@@ -1,4 +1,5 @@
 """The parts of tools/record alone: what reads along with HTTP, the order of a log, its files, and what goes to the keeper."""
+import asyncio
 import errno
 import json
 import os
@@ -7,14 +8,17 @@ import threading
 import time
 from random import Random
 from unittest import mock
+from urllib.parse import urlsplit
 
 from new_enemy_tools.importing.chained import end_of, head_of
+from new_enemy_tools.importing.reading import Bad
 from new_enemy_tools.importing.times import nanoseconds
 from new_enemy_tools.recording.http_reading import BODY, Head, Messages, Strange, path_of
 from new_enemy_tools.recording.log_files import LATER, InUse, LogFault, LogFiles, Place
 from new_enemy_tools.recording.lines import gap_line, line, write_line
-from new_enemy_tools.recording.messages import Beat, Bye, Ended, Lost, Started, Teller, messages_from
-from new_enemy_tools.recording.openfga import call_of as openfga_call
+from new_enemy_tools.recording.messages import Beat, Bye, Ended, Lost, Started, Teller, messages_from, packed
+from new_enemy_tools.recording.relay import Relay
+from new_enemy_tools.recording.openfga import asks_for_newest, call_of as openfga_call
 from new_enemy_tools.recording.sequencer import Commit, Known, Sequencer
 from new_enemy_tools.recording.spicedb import call_of as spicedb_call
 from tests.support import Case
@@ -104,6 +108,16 @@ class Reading(Case):
         self.assertEqual(openfga_call("POST", "/prefix/stores/A/streamed-list-objects"), "stream")
         self.assertEqual([spicedb_call("POST", path) for path in ("/v1/permissions/check", "/a/v1/permissions/resources", "/v1/watch")],
                          ["check", "stream", None])
+
+
+class Demands(Case):
+    def test_by_a_name_or_a_number(self):
+        """As JSON of protobuf has either; a check whose demand is not known is no check without one."""
+        for given, newest in (None, False), ("HIGHER_CONSISTENCY", True), (200, True), ("MINIMIZE_LATENCY", False), (100, False), (0, False):
+            self.assertEqual(asks_for_newest({"consistency": given}), newest)
+        for given in "HIGHEST", 300, True, {}:
+            with self.assertRaises(Bad):
+                asks_for_newest({"consistency": given})
 
 
 class Order(Case):
@@ -286,6 +300,34 @@ class Telling(Case):
             self.read()
         self.assertEqual(sum(isinstance(one, Ended) for one in self.got) + sum(one.amount for one in self.got if isinstance(one, Lost)), 30)
         self.assertIsInstance(self.got[-1], Beat)
+
+    def test_what_is_gathered_goes_at_once(self):
+        """However little of it the socket takes at a time; before a request goes on, what was told of it has."""
+        told, sent, random = [Started(number, 2, False, "check") for number in range(300)], bytearray(), Random(1)
+
+        def send(data):
+            size = random.randint(1, min(len(data), 5000))
+            sent.extend(data[:size])
+            return size
+        self.teller.gathers, kept = True, self.teller.end
+        self.teller.end = mock.Mock(send=mock.Mock(side_effect=send))
+        for one in told:
+            self.teller.tell(one)
+        self.assertEqual((bytes(sent), self.teller.end.send.call_count), (b"", 0))
+        self.assertTrue(self.teller.flush())
+        self.assertEqual((bytes(sent), self.teller.size), (b"".join(map(packed, told)), 0))
+        self.teller.end = kept
+
+    def test_a_request_goes_on_when_it_was_told(self):
+        async def run():
+            relay, seen = Relay(urlsplit("http://127.0.0.1:1"), self.teller, openfga_call), []
+            transport = mock.Mock(write=lambda data: seen.append((data, self.its.recv(1 << 16))))
+            self.teller.tell(Started(1, 2, False, "check"))
+            relay.put(transport, b"request")
+            self.assertEqual(seen, [])
+            await asyncio.sleep(0)
+            self.assertEqual(seen, [(b"request", packed(Started(1, 2, False, "check")))])
+        asyncio.run(run())
 
     def test_without_a_keeper(self):
         teller = Teller(None)

@@ -75,7 +75,7 @@ class Raced(OpenFga):
 
     def test_how_long_the_readings_rest(self):
         """As long after many that gave nothing as after the first."""
-        feed = OpenFgaFeed(Settings("openfga", "http://127.0.0.1:1", "log", STORE, None, False, 30, 0.05, 0, 1, 1))
+        feed = OpenFgaFeed(Settings("openfga", "http://127.0.0.1:1", "log", STORE, None, False, 30, 0.05, 0, 1, 1), mock.Mock())
         feed.overlap, read, ends = mock.Mock(), [], [None] * 200 + [InterruptedError]
         with mock.patch.object(feed, "_read"), mock.patch("time.sleep", mock.Mock(side_effect=ends)) as sleep:
             with self.assertRaises(InterruptedError):

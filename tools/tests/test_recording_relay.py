@@ -10,7 +10,7 @@ from unittest import mock
 from urllib.parse import urlsplit
 
 from new_enemy_tools.importing.reading import Bad
-from new_enemy_tools.recording.core import body_of
+from new_enemy_tools.recording.bodies import body_of
 from new_enemy_tools.recording.messages import Ended, Started, Teller, messages_from
 from new_enemy_tools.recording.openfga import call_of
 from new_enemy_tools.recording.reader import Reader

@@ -1,17 +1,21 @@
 """The recorder's core in a simulated world, by seeds; and that the simulation finds what it is there to find."""
+import json
 import os
 import subprocess
 import sys
 from random import Random
 from unittest import mock
 
-from new_enemy_tools.recording.core import Core
-from new_enemy_tools.recording.openfga import OpenFga
+from new_enemy_tools.importing.events import Relationship
+from new_enemy_tools.recording.core import Core, Now
+from new_enemy_tools.recording.messages import Beat
+from new_enemy_tools.recording.openfga import Changes, OpenFga
+from new_enemy_tools.recording.overlap import Change, Read
 from new_enemy_tools.recording.places import Places
 from new_enemy_tools.recording.spicedb import Feed, SpiceDb
 from tests.simulated_spicedb import run as run_spicedb
 from tests.simulated_spicedb import run_either
-from tests.simulation import STEP, Shape, run
+from tests.simulation import STEP, TUPLES, Shape, run
 from tests.support import TOOLS, Case
 
 SEEDS = 1000
@@ -55,10 +59,33 @@ class Holds(Case):
             self.assertEqual(run(seed)[1].faults(), [], "seed %d" % seed)
 
     def test_the_command(self):
-        for words in ([], ["--joined"], ["--days"], ["--spicedb"]):
+        for words in ([], ["--joined"], ["--days"], ["--spicedb"], ["--own"]):
             run = subprocess.run([sys.executable, os.path.join(TOOLS, "dev", "simulate"), "--seeds", "20", *words], capture_output=True, text=True,
                                  timeout=300)
             self.assertEqual((run.returncode, run.stdout.splitlines()[-1]), (0, "20 passed, 0 failed"), run.stderr)
+
+
+class Missed(Case):
+    def test_a_change_that_a_reading_of_several_pages_missed(self):
+        """It shows that a tuple came which was there, since the page of its going was read too early. When that is shown, it is still not known
+        which of the two was last."""
+        self.assertEqual(run(1137002)[1].faults(), [])
+        with mock.patch.object(OpenFga, "_clear", lambda self, given, row: self.tainted.pop(given, None)):
+            self.assertEqual(run(1137002)[1].faults(), ["a right reply is called wrong (check 22)"])
+
+    def test_in_a_log_of_the_changes_alone(self):
+        """There the tuple is told to be in doubt."""
+        core, lines = Core(OpenFga("S", 0, 10 ** 9, 0, True), 1), list[bytes]()
+        core.is_ready, wall, given = True, 10 ** 18, Relationship(*TUPLES[0])
+        core.service.takes.takes[given.type, given.relation] = {(given.user_type, None)}
+        for at in 10, 20:
+            read = Read([Change(given, True, at)], "c", 1, [])
+            for message in Changes(at, at + 5, False, read, None), Beat(at + 5):
+                core.take(message, Now(wall + at + 5, at + 5))
+            lines += core.drained().splitlines()
+        told = [json.loads(line) for line in lines]
+        self.assertEqual([(row["event"], row.get("userset")) for row in told if row["event"] in ("write", "unmapped")],
+                         [("write", None), ("unmapped", list(TUPLES[0][:3])), ("write", None)])
 
 
 class Finds(Case):

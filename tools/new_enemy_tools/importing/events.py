@@ -4,6 +4,7 @@ from dataclasses import dataclass, field
 from typing import Any, Iterable, Iterator, NamedTuple, Optional, Union
 
 from new_enemy_tools.importing.checks import NEWEST
+from new_enemy_tools.importing.printed import hint_of
 from new_enemy_tools.importing.refusals import Refusals
 from new_enemy_tools.importing.times import nanoseconds
 from new_enemy_tools.keys import unread, unread_in_expression
@@ -21,7 +22,7 @@ KEYS = {"rules": EVERY_EVENT | {"revision", "model", "namespaces", "came"},
         "write": EVERY_EVENT | {"revision", "base", "add", "remove", "came"},
         "check": ENTRY | {"newest"}, "content": ENTRY | {"newest"},
         "gap": EVERY_EVENT | {"from", "to", "reason", "lost"}, "unmapped": EVERY_EVENT | {"reason", "detail", "userset", "version"},
-        "feed": EVERY_EVENT | {"store", "changes"}, "read": EVERY_EVENT | {"until"}, "log": EVERY_EVENT | {"number", "before", "service", "cursor", "revision", "rules_sha256", "behind", "apart"},
+        "feed": EVERY_EVENT | {"store", "changes"}, "read": EVERY_EVENT | {"until", "revision", "unsure"}, "log": EVERY_EVENT | {"number", "before", "service", "cursor", "revision", "rules_sha256", "behind", "apart"},
         "place": EVERY_EVENT | {"cursor", "revision", "rules_sha256", "behind", "apart"}, "closed": EVERY_EVENT | {"count", "sha256"}}
 # Lines of a recorder for itself and for the chain of its files.
 RECORDER = frozenset(("log", "feed", "read", "place", "closed"))
@@ -331,7 +332,7 @@ def _unmapped(value: dict[str, Any], file: str, line: int, refusals: Refusals) -
 
 def _event(value: object, file: str, line: int, refusals: Refusals) -> Optional[Line]:
     if not isinstance(value, dict) or not isinstance(value.get("event"), str) or value["event"] not in KEYS:
-        raise _Fault("`event` is none of rules, write, check, content")
+        raise _Fault("`event` is none of rules, write, check, content%s" % hint_of(value))
     _refuse_unread(value, KEYS[value["event"]])
     if value["event"] in RECORDER:
         if not refusals.is_chained:

@@ -12,6 +12,8 @@ from new_enemy_tools.keys import LONGEST, Unread
 
 REQUEST, RESPONSE = "grpc.request.content", "grpc.response.content"
 FINISHED = "finished call"
+# A tap of Envoy, and the events in which applications say what they asked.
+TAP, SAID = "http_buffered_trace", ("own", "asked", "lost", "over")
 # The keys of a line of OpenFGA's log, and those of an event, that are read.
 READ = frozenset(("specversion", "data", "type", "raw_request", "raw_response", "grpc_method", "grpc_service", "grpc_code", "timestamp"))
 REQUEST_ID = ("requestID", "requestId", "request_id")
@@ -43,6 +45,12 @@ def unwrapped(value: Any, keys: Iterable[str]) -> Any:
     found = {"request": value.get("raw_request"), "response": value.get("raw_response"), "error": value.get("error"),
              "method": value.get("grpc_method"), "status": {"code": code} if code else None, "time": time_of(value.get("timestamp"))}
     return _filled({**found, **given})
+
+
+def hint_of(value: Any) -> str:
+    """What would mend that a line is refused which another command reads."""
+    is_said = isinstance(value, dict) and (get(value, TAP) is not None or value.get("event") in SAID)
+    return "; give it to `ne join`, beside a log of `ne record --changes-only`" if is_said else ""
 
 
 def is_event(value: Any) -> bool:

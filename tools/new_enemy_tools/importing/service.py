@@ -302,7 +302,7 @@ class Log:
         elif is_check:
             yield from self._checks(value, stamp, path, line)
         else:
-            raise Bad(self.NO_LINE)
+            raise Bad(self.NO_LINE + printed.hint_of(value))
 
     def calls(self, value: dict[str, Any], stamp: Stamp, path: str, line: int) -> Iterator[Event]:
         """The writes of a call that wrote, where its line says all of them; raises Bad."""

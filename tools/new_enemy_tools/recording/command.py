@@ -24,7 +24,7 @@ from new_enemy_tools.recording.keeper import Feed, Keeper, Settings
 from new_enemy_tools.recording.log_files import AGE, SIZE
 from new_enemy_tools.recording.messages import Bye, Key, Teller
 from new_enemy_tools.recording.metrics import MetricsServer, Seen, StatusReader, exposition
-from new_enemy_tools.recording.openfga_feed import OpenFgaFeed
+from new_enemy_tools.recording.openfga_feed import OpenFgaFeed, OpenFgaOverHttp
 from new_enemy_tools.recording.relay import Relay
 from new_enemy_tools.recording.secured import Certificate, FileFault, context_of, key_in
 
@@ -43,10 +43,10 @@ CALLS = {"openfga": openfga.call_of, "spicedb": spicedb.call_of}
 def words(arguments: list[str]) -> tuple[Parser, Namespace]:
     parser = Parser(prog="ne record", description=__doc__)
     which = parser.add_mutually_exclusive_group(required=True)
-    which.add_argument("--openfga", metavar="URL", help="where OpenFGA answers, as http://127.0.0.1:8080")
+    which.add_argument("--openfga", metavar="URL", help="where OpenFGA answers, as http://127.0.0.1:8080, or with --grpc its gRPC")
     which.add_argument("--spicedb", metavar="URL", help="where SpiceDB's HTTP gateway answers, or with --grpc its gRPC")
     parser.add_argument("--grpc", action="store_true", help="speak gRPC, which needs grpcio")
-    parser.add_argument("--changes-only", action="store_true", help="record the changes of OpenFGA alone, for checks that do not pass here")
+    parser.add_argument("--changes-only", action="store_true", help="record the changes alone, for checks that do not pass here")
     parser.add_argument("--listen", metavar="ADDRESS", help="where the application asks in place of the service, as 127.0.0.1:8090")
     parser.add_argument("--out", metavar="FOLDER", required=True, help="the folder of the log")
     parser.add_argument("--store", metavar="ID", help="the store of OpenFGA that is recorded, where there are several")
@@ -262,15 +262,22 @@ class Proxy:
         return 0 if self.keeper is not None and self.keeper.returncode == 0 else 5
 
 
+def source_of(settings: Settings) -> Any:
+    """What asks the service of itself; gRPC needs a library that not all have."""
+    is_openfga = settings.service == "openfga"
+    if not settings.grpc:
+        return OpenFgaOverHttp if is_openfga else HttpSource
+    from new_enemy_tools.recording.grpc_asking import OpenFgaOverGrpc, SpiceDbOverGrpc
+    return OpenFgaOverGrpc if is_openfga else SpiceDbOverGrpc
+
+
 def service_of(settings: Settings) -> tuple[Service, Feed]:
     """What places the calls of a service, and what reads its changes."""
+    source = source_of(settings)(settings.url, settings.key, settings.ca)
     if settings.service == "openfga":
         made = openfga.OpenFga(settings.store, int(settings.stale * 1e9), int(settings.hold * 1e9), int(settings.horizon * 1e9), settings.only)
-        return made, OpenFgaFeed(settings)
-    if settings.grpc:
-        from new_enemy_tools.recording.spicedb_grpc import GrpcSource
-        return spicedb.SpiceDb(), spicedb.Feed(GrpcSource(settings.url, settings.key, settings.ca))
-    return spicedb.SpiceDb(), spicedb.Feed(HttpSource(settings.url, settings.key, settings.ca))
+        return made, OpenFgaFeed(settings, source)
+    return spicedb.SpiceDb(settings.only), spicedb.Feed(source, settings.only)
 
 
 def keep(descriptor: int) -> int:
@@ -287,14 +294,10 @@ def main(arguments: list[str]) -> int:
         return keep(given.keep)
     if given.store is not None and not given.openfga:
         parser.error("--store goes with --openfga")
-    if given.changes_only and not given.openfga:
-        parser.error("--changes-only goes with --openfga")
     if given.changes_only == (given.listen is not None):
         parser.error("give either --listen or --changes-only")
     if given.changes_only and (given.tls_cert or given.share_port):
         parser.error("--tls-cert and --share-port go with --listen")
-    if given.grpc and not given.spicedb:
-        parser.error("--grpc goes with --spicedb")
     if min(given.hold, given.poll, given.stale_by, given.file_seconds, given.horizon, given.overlap) < 0 or given.file_bytes < 1:
         parser.error("a number is below 0")
     if given.hold < 2 * given.horizon:

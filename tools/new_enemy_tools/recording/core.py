@@ -3,9 +3,6 @@
 It has no socket, no clock, no thread and no file: who drives it says what time it is. `keeper.py` has the devices around it, and
 `tools/dev/simulate` drives it through interleavings by seeds.
 """
-import gzip
-import json
-import zlib
 from collections import Counter
 from functools import partial
 from itertools import chain
@@ -22,8 +19,6 @@ from new_enemy_tools.recording.sequencer import Commit, Ready, Sequencer
 FOREVER = 1 << 63
 # Gaps behind the first one are told together, so often.
 TOGETHER = 10 ** 9
-# An answer is read up to so many bytes, also where it comes compressed.
-BODY = 16 << 20
 # What a gap calls the requests of a call.
 KINDS = {"check": "checks", "batch": "batches of checks", "list": "lists", "stream": "lists"}
 
@@ -108,33 +103,6 @@ class Gaps:
         self.open.clear()
         self.told = now.clock
         return found
-
-
-def _unpacked(data: bytes) -> bytes:
-    """What was compressed, as far as an answer is read; raises Bad where it is longer, ValueError where it is cut or none."""
-    reader = zlib.decompressobj(16 + zlib.MAX_WBITS)
-    try:
-        found = reader.decompress(data, BODY + 1)
-    except zlib.error:
-        raise ValueError from None
-    if len(found) > BODY:
-        raise Bad("an answer was too long to be kept")
-    if not reader.eof:
-        raise ValueError
-    # What is packed in several pieces is rare, and small where it is read.
-    return gzip.decompress(data) if reader.unused_data and len(data) < BODY >> 10 else found
-
-
-def body_of(message: Ended) -> Any:
-    """The JSON of an answer, of one value or a line for each; raises ValueError, or Bad where it is too long."""
-    data = message.response or b""
-    if message.encoding == "gzip":
-        data = _unpacked(data)
-    elif message.encoding not in (None, "", "identity"):
-        raise ValueError
-    if message.call != "stream":
-        return json.loads(data)
-    return [json.loads(one) for one in data.split(b"\n") if one.strip()]
 
 
 class Core:

@@ -1,9 +1,11 @@
-"""SpiceDB's calls over gRPC, and how a call's messages are told to the keeper."""
+"""The calls of both services over gRPC that are recorded, and how their messages are told to the keeper."""
 from typing import Any, NamedTuple, Optional
 
+from new_enemy_tools.recording import openfga_messages, spicedb_messages
 from new_enemy_tools.recording.messages import SIZE, Ended
-from new_enemy_tools.recording.protobuf import read
+from new_enemy_tools.recording.protobuf import Messages
 
+OPENFGA = "/openfga.v1.OpenFGAService/"
 PERMISSIONS = "/authzed.api.v1.PermissionsService/"
 # What an encoding is called whose bodies are messages of gRPC.
 GRPC = "grpc"
@@ -14,15 +16,18 @@ class Call(NamedTuple):
 
     kind: str
     name: str
+    messages: Messages
 
 
-CALLS = {PERMISSIONS + "CheckPermission": Call("check", "CheckPermission"),
-         PERMISSIONS + "CheckBulkPermissions": Call("batch", "CheckBulkPermissions"),
-         "/authzed.api.v1.ExperimentalService/BulkCheckPermission": Call("batch", "CheckBulkPermissions"),
-         PERMISSIONS + "LookupResources": Call("stream", "LookupResources"),
-         PERMISSIONS + "LookupSubjects": Call("stream", "LookupSubjects"),
-         PERMISSIONS + "WriteRelationships": Call("write", "WriteRelationships"),
-         PERMISSIONS + "DeleteRelationships": Call("write", "DeleteRelationships")}
+def _calls(service: str, messages: Messages, **kinds: str) -> dict[str, Call]:
+    return {service + name: Call(kind, name, messages) for name, kind in kinds.items()}
+
+
+CALLS = {**_calls(OPENFGA, openfga_messages.MESSAGES, Check="check", BatchCheck="batch", ListObjects="list", ListUsers="list",
+                  StreamedListObjects="stream", Write="write"),
+         **_calls(PERMISSIONS, spicedb_messages.MESSAGES, CheckPermission="check", CheckBulkPermissions="batch", LookupResources="stream",
+                  LookupSubjects="stream", WriteRelationships="write", DeleteRelationships="write"),
+         "/authzed.api.v1.ExperimentalService/BulkCheckPermission": Call("batch", "CheckBulkPermissions", spicedb_messages.MESSAGES)}
 
 
 def joined(messages: list[bytes]) -> bytes:
@@ -38,9 +43,14 @@ def _split(data: Optional[bytes]) -> list[bytes]:
     return found
 
 
-def decoded(message: Ended) -> tuple[Any, Any]:
-    """The request and the response of a call, as the JSON of the gateway; a list of responses where they are streamed."""
+def asked(message: Ended) -> Any:
+    """The request of a call, as JSON; raises Malformed."""
     call = CALLS[message.path]
-    request = read(call.name + "Request", _split(message.request)[0])
-    responses = [read(call.name + "Response", one) for one in _split(message.response)]
-    return request, responses if call.kind == "stream" else responses[0]
+    return call.messages.read(call.name + "Request", _split(message.request)[0])
+
+
+def answered(message: Ended) -> Any:
+    """The response of a call, a list where it is streamed; raises Malformed."""
+    call = CALLS[message.path]
+    responses = [call.messages.read(call.name + "Response", one) for one in _split(message.response)]
+    return responses if call.kind == "stream" else responses[0]

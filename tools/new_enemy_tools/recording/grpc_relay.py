@@ -9,7 +9,7 @@ from urllib.parse import SplitResult
 
 from new_enemy_tools.recording.grpc_calls import CALLS, GRPC, Call, joined
 from new_enemy_tools.recording.http_reading import BODY
-from new_enemy_tools.recording.messages import CHECKS, Ended, Started, Teller
+from new_enemy_tools.recording.messages import TOLD, Ended, Started, Teller
 from new_enemy_tools.recording.secured import Certificate, roots_in
 
 try:
@@ -146,7 +146,7 @@ class GrpcRelay:
             async for data in requests:
                 if kept is not None:
                     kept.take(kept.requests, data)
-                    if kept.call.kind in CHECKS and not kept.is_told:
+                    if kept.call.kind in TOLD and not kept.is_told:
                         self.teller.tell(kept.started())
                 yield data
         call = self.channel.stream_stream(method)(read_along(), metadata=metadata, timeout=context.time_remaining())

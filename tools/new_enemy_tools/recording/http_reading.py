@@ -16,6 +16,8 @@ STRAY = re.compile(rb"(?<!\r)\n|\r(?!\n|\Z)|\x00")
 # The first line of a request that is read along.
 REQUEST = re.compile(rb"[!#$%&'+*.^_`|~0-9A-Za-z-]+ [!-~]+ HTTP/1\.[01]")
 CONTROL = re.compile(rb"[\x00-\x08\x0a-\x1f\x7f]")
+# The headers of a head, where each of them is as it should be.
+FIELDS = re.compile(rb"(?:\r\n[!#$%&'+*.^_`|~0-9A-Za-z-]+:[^\x00-\x08\x0a-\x1f\x7f]*)*")
 SIZE = re.compile(rb"([0-9A-Fa-f]{1,15})[ \t]*(?:;.*)?", re.DOTALL)
 Raw = Callable[[bytes], None]
 
@@ -47,8 +49,9 @@ class Head:
             raise Strange("a first line of fewer than two words")
         self.values: dict[str, bytes] = {}
         self.twice: set[str] = set()
+        is_good = FIELDS.fullmatch(raw, len(first)) is not None
         for one in rest:
-            name, value = _field(one)
+            name, value = one.split(b":", 1) if is_good else _field(one)
             key = name.decode("ascii").lower()
             if key in self.values:
                 self.twice.add(key)
@@ -116,6 +119,8 @@ class Messages:
     def _find(self, end: bytes) -> int:
         """Where a line or a head ends; -1 where the end has not come. What has been looked at is not looked at again."""
         at = self.data.find(end, max(0, self.seen - len(end)))
+        if at >= 0 and self._is_plain(at):
+            return at
         stray = STRAY.search(self.data, max(0, self.seen - 1), at if at >= 0 else len(self.data))
         if stray:
             raise Strange("a line with a stray end in it")
@@ -124,6 +129,11 @@ class Messages:
             if len(self.data) > HEAD:
                 raise Strange("a line of more than %d bytes" % HEAD)
         return at
+
+    def _is_plain(self, end: int) -> bool:
+        """Whether all ends of lines up to a place are ends in one way."""
+        count = self.data.count
+        return count(b"\n", 0, end) == count(b"\r", 0, end) == count(b"\r\n", 0, end) and not count(b"\x00", 0, end)
 
     def _head(self) -> bool:
         while self.data[:2] == b"\r\n":

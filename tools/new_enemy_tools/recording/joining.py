@@ -12,7 +12,7 @@ from new_enemy_tools.importing.service import ServiceRules
 from new_enemy_tools.importing.times import nanoseconds
 from new_enemy_tools.recording.bearing import Bearing
 from new_enemy_tools.recording.lines import time_text
-from new_enemy_tools.recording.own_events import NEVER, Own, issued_by, lines_of, open_gap, refuse_other_store, timed_of
+from new_enemy_tools.recording.own_events import NEVER, Own, issued_by, lines_of, open_gap, placing_of, refuse_other_store
 from new_enemy_tools.recording.overheard import of_store
 from new_enemy_tools.recording.sketches import Change, Given, JoinFault, Sketch, Value, Version, last_of, refuse_unlike, version_of
 from new_enemy_tools.recording.spine import Numbered, Spine, Track
@@ -177,9 +177,10 @@ class Join:
         self.service, store = sketches[0].service, sketches[0].store
         self.sketches = self._in_order(sketches)
         self.way: Union[OfNumbers, OfPlaces] = OfNumbers(self.sketches) if store is None else self._places()
-        self.own = [of_store(one, store) if one.store is None else one for one in own]
-        refuse_other_store(self.own, store)
-        self.timed = timed_of(self.sketches, skew, stale, self.way.bearing) if self.own and isinstance(self.way, OfPlaces) else None
+        self.own = [of_store(one, store) if one.store is None and one.service == self.service == "openfga" else one for one in own]
+        refuse_other_store(self.own, self.service, store)
+        bearing = self.way.bearing if isinstance(self.way, OfPlaces) else None
+        self.timed = placing_of(self.sketches, self.own, skew, stale, bearing) if self.own else None
         self.issued: set[Version] = set().union(*(one.issued for one in self.sketches), *map(issued_by, self.own))
         # until when each log has all that was saved through its recorder
         self.untils = [one.until - skew - (0 if one.given.is_closed else WAITED) for one in self.sketches]
@@ -246,7 +247,7 @@ class Join:
 
     def _said(self, number: int, own: Own) -> Iterator[Placed]:
         """What an application says, in the order of the places."""
-        assert self.timed is not None and isinstance(self.way, OfPlaces)
+        assert self.timed is not None
         log, timed = self.timed
         found = []
         for line, (row, said) in enumerate(lines_of(own, timed)):

@@ -5,11 +5,16 @@ import struct
 import time
 from collections import Counter, deque
 from io import BufferedReader
+from itertools import islice
 from typing import Any, BinaryIO, Iterator, NamedTuple, Optional
 
 SIZE = struct.Struct("<I")
-# Calls that decide, and are told when they begin; all others are told when they have ended.
+# Calls that decide.
 CHECKS = frozenset(("check", "batch", "list", "stream"))
+# Calls that are told when they are passed on.
+TOLD = CHECKS | {"write"}
+# So many messages are written at once.
+AT_ONCE = 64
 # So many bytes may wait for the keeper.
 ROOM = 64 << 20
 
@@ -80,10 +85,10 @@ def packed(message: tuple[Any, ...]) -> bytes:
 
 
 class Teller:
-    """The proxy's side. It writes what the socket takes at once, and keeps the rest for `flush`."""
+    """The proxy's side. It writes what the socket takes at once, or where it gathers when it is asked to, and keeps the rest for `flush`."""
 
     def __init__(self, end: Optional[socket.socket]):
-        self.end = end
+        self.end, self.gathers = end, False
         self.waiting: deque[bytes] = deque()
         self.size = 0
         self.lost: Optional[Lost] = None
@@ -100,7 +105,8 @@ class Teller:
             self._add(packed(message))
         else:
             self.lose("the keeper of the log does not keep up" if self.end is not None else "the keeper of the log was gone")
-        self.flush()
+        if not self.gathers:
+            self.flush()
 
     def has_told(self) -> bool:
         """Whether nothing is still to be told."""
@@ -132,17 +138,18 @@ class Teller:
         """Writes what the socket takes; whether nothing waits."""
         while self.waiting and self.end is not None:
             try:
-                sent = self.end.send(self.waiting[0])
+                sent = self.end.send(b"".join(islice(self.waiting, AT_ONCE)))
             except BlockingIOError:
                 return False
             except OSError:
                 self.forget()
                 return True
             self.size -= sent
-            if sent < len(self.waiting[0]):
-                self.waiting[0] = self.waiting[0][sent:]
-                return False
-            self.waiting.popleft()
+            while sent:
+                first = self.waiting.popleft()
+                if sent < len(first):
+                    self.waiting.appendleft(first[sent:])
+                sent = max(0, sent - len(first))
         return True
 
     def forget(self) -> None:

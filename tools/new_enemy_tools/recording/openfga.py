@@ -5,7 +5,6 @@ state a reply was computed on, and its feed does not have the order of the commi
 have come (`places.py`): by the readings that did not show it and those that did, and by the write that made it, where that passed here.
 A check saw what had come when it was passed on, and nothing that came behind its answer.
 """
-import json
 import re
 from bisect import bisect_right
 from collections import deque
@@ -15,13 +14,16 @@ from typing import Any, Iterator, NamedTuple, Optional, Union
 
 from new_enemy_tools.importing.between import STATES
 from new_enemy_tools.importing.events import Relationship
+from new_enemy_tools.importing.openfga import CONSISTENCY
 from new_enemy_tools.importing.openfga_answers import answers_of, relationship_of
 from new_enemy_tools.importing.reading import Bad, get
 from new_enemy_tools.importing.refusals import Refusals
 from new_enemy_tools.importing.service import Answer, ServiceRules
 from new_enemy_tools.importing.times import nanoseconds
 from new_enemy_tools.recording.bearing import Bearing
-from new_enemy_tools.recording.core import Asked, Begun, Core, body_of
+from new_enemy_tools.recording.bodies import UNHEARD, request_of, response_of
+from new_enemy_tools.recording.core import Asked, Begun, Core
+from new_enemy_tools.recording.grpc_calls import GRPC
 from new_enemy_tools.recording.lines import TUPLES, Came, base_lines, line, time_text, unmapped_line, write_line
 from new_enemy_tools.recording.log_files import Left, Place
 from new_enemy_tools.recording.messages import Ended, Started
@@ -31,9 +33,9 @@ from new_enemy_tools.recording.ruled import Takes, Unread, ruled
 from new_enemy_tools.recording.sequencer import Commit
 from new_enemy_tools.recording.stored import Stored
 
-PATH = re.compile(r"/stores/([^/]+)/(check|batch-check|list-objects|streamed-list-objects|list-users|write|authorization-models)")
+PATH = re.compile(r"/stores/([^/]+)/(check|batch-check|list-objects|streamed-list-objects|list-users|write)")
 CALLS = {"check": "check", "batch-check": "batch", "list-objects": "list", "list-users": "list", "streamed-list-objects": "stream",
-         "write": "write", "authorization-models": "rules"}
+         "write": "write"}
 # Of so many changes the times are remembered.
 TIMES = 100_000
 # Of so many changes it is remembered where each tuple's stand, for writes whose answers come later.
@@ -48,6 +50,7 @@ OPEN = 2 * 10 ** 9
 UNSHOWN = "a write was answered that the changes did not show within %g seconds"
 ODD = "changes of a tuple that do not come by turns"
 UNORDERED = "changes that came at once, in an order that is not known"
+CONSISTENT = "a check with an unknown consistency"
 Rules = tuple[Optional[ServiceRules], Refusals]
 Key = tuple[Relationship, bool]
 
@@ -101,6 +104,11 @@ class Made:
         self.number, self.keys, self.asked, self.answered, self.at = number, keys, asked, answered, at
 
 
+class Taint(NamedTuple):
+    why: str
+    until: int = 0
+
+
 class Model(NamedTuple):
     """A model and the revision from which on it is in force; one that can't be read has no id."""
 
@@ -133,8 +141,8 @@ class OpenFga:
         self.recent: deque[tuple[Key, int]] = deque()
         self.shown: dict[Key, deque[int]] = {}
         self.live: dict[Relationship, bool] = {}
-        # tuples of which it is not known whether they are there, and why
-        self.tainted: dict[Optional[Relationship], str] = {}
+        # tuples of which it is not known whether they are there, and why; and until when their changes may have come
+        self.tainted: dict[Optional[Relationship], Taint] = {}
         # of each change its time, or the latest before it, and its revision
         self.times: list[int] = []
         self.stands: list[int] = []
@@ -226,9 +234,9 @@ class OpenFga:
         if message.read.changes and self.last[1] and message.is_single and not self.horizon:
             # What one page showed came before what it did not show.
             self.places.lower(self.last[0], min(row.high for row in rows))
-        self._put_rows(rows, message, core)
+        self._put_rows(rows, message, odd, core)
         for change in odd:
-            self._taint(change.given, ODD)
+            self._taint(change.given, Taint(ODD, message.received))
         if message.rules is not None:
             self._take_rules(*message.rules, message, core)
             if message.read.changes:
@@ -290,26 +298,32 @@ class OpenFga:
                 row.low -= late - self.horizon
             self.horizon = late
 
-    def _put_rows(self, rows: list[Row], message: Changes, core: Core) -> None:
+    def _put_rows(self, rows: list[Row], message: Changes, odd: list[Change], core: Core) -> None:
         for row in rows:
             self.places.add([row])
             revision = self.places.revision
             came = self._came(row.low, row.high, core)
-            data = b"".join(self._line(change, revision, came) for change in row.changes)
+            data = b"".join(self._doubt(change, odd) + self._line(change, revision, came) for change in row.changes)
             commit = Commit(revision, data, message.received, changes=len(row.changes))
             if row is rows[-1]:
                 apart = tuple(sorted(one.revision for one in message.read.apart))
                 commit = commit._replace(cursor=message.read.cursor, behind=message.read.behind, apart=apart)
             core.put_commit(commit)
             for change in row.changes:
-                self._remember(change)
+                self._remember(change, row)
 
-    def _remember(self, change: Change) -> None:
+    def _remember(self, change: Change, row: Row) -> None:
         if change.given is not None:
             self.live[change.given] = change.live
-            self.tainted.pop(change.given, None)
+            self._clear(change.given, row)
             self.recent.append(((change.given, change.live), change.revision))
             self.shown.setdefault((change.given, change.live), deque()).append(change.revision)
+
+    def _doubt(self, change: Change, odd: list[Change]) -> bytes:
+        """Says in a log of the changes alone that it is not known what a change leaves, since no check passes here that could be a gap."""
+        if not self.tells or change.given is None or all(one is not change for one in odd):
+            return b""
+        return unmapped_line(ODD, str(change.given), change.given[:3])
 
     def _take_rules(self, rules: Optional[ServiceRules], refusals: Refusals, message: Changes, core: Core) -> None:
         revision = self.places.revision
@@ -346,7 +360,7 @@ class OpenFga:
         asked = self.open.pop(message.number, message.clock - (message.at - message.begun))
         if message.request is None or not 200 <= message.status < 300 or asked < self.first:
             return
-        request, keys = json.loads(message.request), []
+        request, keys = self._request(message), []
         for part, otherwise, live in ("writes", "on_duplicate", True), ("deletes", "on_missing", False):
             given = get(request, part)
             keys += [(relationship_of(one), live) for one in get(given, "tuple_keys") or ()
@@ -394,7 +408,7 @@ class OpenFga:
         while self.made and self.made[0].answered < before:
             first = self.made.popleft()
             for key in first.keys:
-                self._taint(None if key is None else key[0], UNSHOWN % (self.hold / 1e9))
+                self._taint(None if key is None else key[0], Taint(UNSHOWN % (self.hold / 1e9)))
             lost = [one for one in self.waits if one.message.clock >= first.asked]
             self.waits = [one for one in self.waits if one.message.clock < first.asked]
             for one in lost:
@@ -404,12 +418,18 @@ class OpenFga:
             if asked < before:
                 del self.open[number]
 
-    def _taint(self, given: Optional[Relationship], why: str) -> None:
+    def _taint(self, given: Optional[Relationship], taint: Taint) -> None:
         if given is not None:
-            self.tainted[given] = why
+            self.tainted[given] = taint
             if len(self.tainted) > TAINTED:
                 # Too many to be told from others.
-                self.tainted = {None: why}
+                self.tainted = {None: taint}
+
+    def _clear(self, given: Relationship, row: Row) -> None:
+        """A tuple has changed again: where that came behind all before, it is as this change says. Else it may be one that was missed between two."""
+        taint = self.tainted.pop(given, None)
+        if taint is not None and row.low < taint.until:
+            self.tainted[given] = taint._replace(until=max(taint.until, row.high))
 
     # Calls
 
@@ -426,24 +446,28 @@ class OpenFga:
         return found
 
     def end(self, message: Ended, asked: Asked, core: Core) -> None:
-        is_ours = self.store is None or "/stores/%s/" % self.store in message.path
-        if message.call in ("write", "rules") or not is_ours:
-            core.forget(message.number)
-            if message.call == "write" and is_ours and core.is_ready:
+        if message.call == "write":
+            if core.is_ready:
                 self._note(message)
             self.open.pop(message.number, None)
             return
-        request, response = json.loads(message.request or b""), body_of(message)
-        if message.call == "stream":
-            response = {"objects": [get(get(one, "result"), "object") for one in response]}
-        answers = list(answers_of(request, response, Refusals()))
+        request = self._request(message)
+        answers = [] if request is None else list(answers_of(request, response_of(message), UNHEARD))
         if not answers:
             core.forget(message.number)
             return
-        newest = message.save is not None or get(request, "consistency") == "HIGHER_CONSISTENCY"
+        newest = message.save is not None or asks_for_newest(request)
         since = asked.clock if newest else self._stale(asked.clock)
         token = None if message.token is None or newest and message.save is None else self._place_of(message.token)
         self.waits.append(Waiting(message, answers, since, newest, token, get(request, "authorization_model_id") or None))
+
+    def _request(self, message: Ended) -> Any:
+        """What a call asks of the store that is recorded, None where it is of another; over gRPC the request names it."""
+        is_over_grpc = message.encoding == GRPC
+        if self.store is not None and not is_over_grpc and "/stores/%s/" % self.store not in message.path:
+            return None
+        request = request_of(message)
+        return None if is_over_grpc and self.store not in (None, get(request, "store_id")) else request
 
     def _stale(self, clock: int) -> int:
         """When that was known which a check has seen at least that does not ask for the newest state."""
@@ -510,9 +534,9 @@ class OpenFga:
         if window.high - window.low >= STATES:
             return "more than %d changes came while a check was under way" % STATES
         goals = [answer.goal for answer in one.answers]
-        for given, why in self.tainted.items():
+        for given, taint in self.tainted.items():
             if any(self.bearing.bears(given, goal) for goal in goals):
-                return why
+                return taint.why
         if self.places.is_unsure(window, lambda row: True) and any(self._is_unsure(window, goal) for goal in goals):
             return UNORDERED
         low = min(self.places.surely(window, one.since, partial(self._bears, goal)) for goal in goals)
@@ -536,6 +560,14 @@ class OpenFga:
             if start <= end and model.id == one.model:
                 return Window(start, end)
         return window if one.model is None else "a check by another model than the latest"
+
+
+def asks_for_newest(request: object) -> bool:
+    """Whether a request asks for the newest state, by a name or a number; raises Bad where it can't be told."""
+    found = get(request, "consistency")
+    if isinstance(found, bool) or not isinstance(found, (str, int, type(None))) or found not in CONSISTENCY:
+        raise Bad(CONSISTENT)
+    return CONSISTENCY[found]
 
 
 def _spread(changes: list[Change], makers: list[Optional[Made]]) -> list[Optional[Made]]:

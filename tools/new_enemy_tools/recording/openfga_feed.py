@@ -1,8 +1,8 @@
-"""Reads the changes of OpenFGA by ReadChanges, in a thread of its own."""
+"""Reads the changes of OpenFGA by ReadChanges, in a thread of its own; over HTTP, or by `grpc_asking.py`."""
 import json
 import time
 from collections import deque
-from typing import Any, Callable, Iterator, Optional
+from typing import Any, Callable, Iterator, Optional, Protocol
 from urllib.parse import quote
 
 from new_enemy_tools.importing.openfga import OPERATIONS, ModelReader
@@ -23,13 +23,49 @@ PAGE = 100
 LESS = 100
 
 
+class Source(Protocol):
+    """The recorder's own requests, over HTTP or gRPC; all raise FeedFault."""
+
+    def stores(self) -> list[Any]:
+        """Some of the stores."""
+
+    def changes(self, store: str, size: int, token: Optional[str]) -> Any:
+        """A page of ReadChanges behind a token."""
+
+    def model(self, store: str) -> tuple[object, bytes]:
+        """An answer with the latest model, and what tells that from others."""
+
+    def models(self, data: bytes) -> list[Any]:
+        """The models of an answer."""
+
+    def use_key(self, key: str) -> None:
+        """Takes another key for what is asked from now on."""
+
+
+class OpenFgaOverHttp(Asker):
+    def stores(self) -> list[Any]:
+        return get(self.ask("GET", "/stores?page_size=10"), "stores") or []
+
+    def changes(self, store: str, size: int, token: Optional[str]) -> Any:
+        behind = "&continuation_token=" + quote(token, safe="") if token else ""
+        return self.ask("GET", "/stores/%s/changes?page_size=%d%s" % (quote(store), size, behind))
+
+    def model(self, store: str) -> tuple[object, bytes]:
+        data = self.raw("GET", "/stores/%s/authorization-models?page_size=1" % quote(store))
+        return data, data
+
+    def models(self, data: bytes) -> list[Any]:
+        return get(json.loads(data), "authorization_models") or []
+
+
 class OpenFgaFeed:
-    def __init__(self, settings: Settings):
+    def __init__(self, settings: Settings, source: Source):
         self.settings = settings
-        self.asker = Asker(settings.url, settings.key, settings.ca)
-        self.store = settings.store
+        self.source = source
+        self.store = settings.store or ""
         self.overlap: Optional[Overlap] = None
-        self.model_data = b""
+        # what tells the latest model from others
+        self.model_mark: object = None
 
     def run(self, left: Optional[Left], put: Callable[[Any], None]) -> None:
         if self.overlap is None:
@@ -46,7 +82,7 @@ class OpenFgaFeed:
             time.sleep(self.settings.poll)
 
     def use_key(self, key: str) -> None:
-        self.asker.use_key(key)
+        self.source.use_key(key)
 
     def _begin(self, left: Optional[Left], put: Callable[[Any], None]) -> None:
         self.store = self.store or self._only_store()
@@ -57,7 +93,7 @@ class OpenFgaFeed:
         else:
             changes, ends = self._changes(overlap.cursor)
             end = ends[-1][1] if ends else overlap.cursor
-        data, rules = self._model()
+        mark, rules = self._model()
         if rules is None:
             raise FeedFault("the store has no authorization model yet")
         try:
@@ -73,7 +109,7 @@ class OpenFgaFeed:
                 raise FeedFault("the changes do not show what the log has of them; begin a new log in another folder")
             changes = new
         put(Base(self.store, left, stored, changes, end if left is None else overlap.mark.cursor, *rules, began, received))
-        self.overlap, self.model_data = overlap, data
+        self.overlap, self.model_mark = overlap, mark
 
     def _take_all(self, overlap: Overlap, stored: Stored, back: int) -> Optional[str]:
         """Takes all changes so far, and gives the token at their end; those that are so much older than the newest, by the times of the
@@ -94,33 +130,31 @@ class OpenFgaFeed:
         """All changes that there are, and the model where it is another; None where it shows less than one before."""
         assert self.overlap is not None
         listed, ends = self._changes(self.overlap.cursor)
-        data, rules = self._model()
+        mark, rules = self._model()
         received = time.monotonic_ns()
         read = self.overlap.take(listed, ends[-1][1] if ends else self.overlap.cursor, began, received)
         if read is None:
             return None
-        self.model_data = data
+        self.model_mark = mark
         return Changes(began, received, len(ends) < 2, read, rules)
 
-    def _model(self) -> tuple[bytes, Optional[Rules]]:
-        """The latest model, where it is another than before."""
-        data = self.asker.raw("GET", self._path("authorization-models?page_size=1"))
-        return data, None if data == self.model_data else _model(data)
+    def _model(self) -> tuple[object, Optional[Rules]]:
+        """What tells the latest model from others, and its rules where it is another than before; None where there is none."""
+        mark, data = self.source.model(self.store)
+        models = [] if mark == self.model_mark else self.source.models(data)
+        refusals = Refusals(True)
+        return mark, (ModelReader("the model", refusals).rules(models[0]), refusals) if models else None
 
     def _only_store(self) -> str:
-        stores = get(self.asker.ask("GET", "/stores?page_size=10"), "stores") or []
+        stores = self.source.stores()
         if len(stores) != 1:
             raise FeedFault("the service has %s stores; name one by --store" % (len(stores) or "no"), bool(stores))
         return str(stores[0]["id"])
 
-    def _path(self, call: str) -> str:
-        return "/stores/%s/%s" % (quote(self.store or ""), call)
-
     def _pages(self, cursor: Optional[str]) -> Iterator[tuple[list[Change], Optional[str]]]:
         """The changes behind a token to the end of the feed, page by page, each with the token at its end."""
         while True:
-            path = self._path("changes?page_size=%d" % PAGE)
-            page = self.asker.ask("GET", path + ("&continuation_token=" + quote(cursor, safe="") if cursor else ""))
+            page = self.source.changes(self.store, PAGE, cursor)
             listed = get(page, "changes") or []
             cursor = get(page, "continuation_token") or cursor
             if listed:
@@ -136,13 +170,6 @@ class OpenFgaFeed:
             found += page
             ends.append((len(found), end))
         return found, ends
-
-
-def _model(data: bytes) -> Optional[Rules]:
-    """The latest model; None where there is none."""
-    models = get(json.loads(data), "authorization_models") or []
-    refusals = Refusals(True)
-    return (ModelReader("the model", refusals).rules(models[0]), refusals) if models else None
 
 
 def _change(given: Any) -> Change:

@@ -1,44 +1,47 @@
-"""What OpenFGA's own log, and Envoy's taps, say of checks, in the form of what applications say (own_events.py).
+"""What OpenFGA's own log, SpiceDB's log of requests and responses, and Envoy's taps say of checks, in the form of what applications say
+(own_events.py).
 
-The form of a tap is that of Envoy's public documentation (`envoy.data.tap.v3`). OpenFGA's lines are read as the import reads them. Neither
+The form of a tap is that of Envoy's public documentation (`envoy.data.tap.v3`). The services' lines are read as the import reads them. None
 says what it does not have, so what comes behind its last line is a gap.
 """
 import base64
 from collections import Counter
 from typing import Any, Iterable, Iterator, NamedTuple, Optional
 
-from new_enemy_tools.importing import causes, passing, printed
-from new_enemy_tools.importing.openfga import CONSISTENCY, OpenFgaLog
-from new_enemy_tools.importing.openfga_answers import answers_of
+from new_enemy_tools.importing import causes, openfga_answers, passing, printed, spicedb_answers
+from new_enemy_tools.importing.openfga import OpenFgaLog
 from new_enemy_tools.importing.reading import Bad, get
-from new_enemy_tools.importing.refusals import Refusals
+from new_enemy_tools.importing.spicedb import SpiceDbLog
+from new_enemy_tools.importing.spicedb_answers import revision_at
 from new_enemy_tools.importing.service import Answer, content_of, text_or_none
 from new_enemy_tools.importing.times import nanoseconds, text_of_time
-from new_enemy_tools.recording.core import body_of, refuse_headers
+from new_enemy_tools.recording.bodies import UNHEARD, body_of
+from new_enemy_tools.recording.core import refuse_headers
 from new_enemy_tools.recording.http_reading import path_of
 from new_enemy_tools.recording.messages import CHECKS, Ended
-from new_enemy_tools.recording.openfga import PATH, call_of
+from new_enemy_tools.recording.openfga import PATH, asks_for_newest, call_of
 from new_enemy_tools.recording.own_events import Own
 from new_enemy_tools.recording.reader import LABELS
 from new_enemy_tools.recording.sketches import JoinFault, Row, Value
+from new_enemy_tools.recording.spicedb import demanded_by
 
-TAP = "http_buffered_trace"
 OTHER_TAPS = ("http_streamed_trace_segment", "socket_buffered_trace", "socket_streamed_trace_segment")
-# The log's times may be cut to milliseconds.
-CUT = 1_000_000
+# The log's times may be cut to milliseconds; those of SpiceDB without a point are cut to seconds.
+CUT, SECOND = 1_000_000, 10 ** 9
 FAILED, OTHER, OTHER_STORE = "requests that failed", "other calls", "checks of other stores"
+UNANSWERED = "requests without an answer"
 OVER_GRPC = "a check over gRPC in a tap"
 CUT_SHORT = "a check whose body Envoy cut short"
 STREAMED = "a streamed list in a tap, of which it is not known when it ended"
 TOKEN = "a token beside a check that no recorder passed"
-CONSISTENT = "a check with an unknown consistency"
 # Keys by which an import places a line of the log.
 PLACES = ("snapshot", "snapshot_between", "token", "newest")
+ANSWERS = {"openfga": openfga_answers.answers_of, "spicedb": spicedb_answers.answers_of}
 
 
 class Call(NamedTuple):
     """A call that decides: of which store, what was asked and answered, as far as that is known, from when to when, what the application says
-    with it, and why it can't be taken."""
+    with it, and why it can't be taken; of SpiceDB also the token that is stored with a version."""
 
     store: str
     asked: object
@@ -48,21 +51,30 @@ class Call(NamedTuple):
     save: Optional[str]
     version: Optional[str]
     why: Optional[str] = None
+    service: str = "openfga"
+    token: Optional[str] = None
 
 
 def overheard(name: str, rows: Iterable[Row], took: int) -> Own:
     """What a log or some taps say; a request of the log began at most `took` nanoseconds before its line. Raises JoinFault."""
     made: list[Row] = []
     passed: Counter[str] = Counter()
-    until = 0
+    until, payloads = 0, Payloads()
+    service: Optional[str] = None
     for row in rows:
-        call = _tapped(row) if any(get(row.value, key) is not None for key in (TAP, *OTHER_TAPS)) else _logged(row, took)
+        is_tap = any(get(row.value, key) is not None for key in (printed.TAP, *OTHER_TAPS))
+        is_payload = not is_tap and printed.Joining.takes(row.value)
+        call = _tapped(row) if is_tap else payloads.call(row) if is_payload else _logged(row, took)
+        if call is not None and service not in (None, "spicedb" if is_payload else "openfga"):
+            raise _fault(row, "a line of another service than those before")
+        service = service if call is None else "spicedb" if is_payload else "openfga"
         if isinstance(call, str):
             passed[call] += 1
         elif call is not None:
             until = max(until, call.ended)
             made += (row._replace(value=value) for value in _values(call))
-    return Own(name, None, until, made, False, passed)
+    passed += payloads.left()
+    return Own(name, service or "openfga", None, until, made, False, passed)
 
 
 def _fault(row: Row, why: str) -> JoinFault:
@@ -74,14 +86,14 @@ def _values(call: Call) -> Iterator[Value]:
     ended = text_of_time(call.ended)
     lost = {"event": "unmapped", "store": call.store, "time": ended}
     try:
-        answers = [] if call.why is not None else list(answers_of(call.asked, call.answered, Refusals()))
+        answers = [] if call.why is not None else list(ANSWERS[call.service](call.asked, call.answered, UNHEARD))
     except Bad as fault:
         yield {**lost, "reason": causes.UNREADABLE, "detail": str(fault), **_saved(call, None)}
         return
     message = Ended(0, "", "", call.began, call.ended, 0, call.save, call.version, None, 200, None, None, None, call.why)
     try:
         refuse_headers(message, answers)
-        newest = call.save is not None or _newest(call.asked)
+        said = {"saves": call.save, "shows": call.version, **(_of_tokens(call) if call.service == "spicedb" else _of_model(call))}
     except Bad as fault:
         if not answers:
             yield {**lost, "reason": str(fault), **_saved(call, None)}
@@ -92,25 +104,92 @@ def _values(call: Call) -> Iterator[Value]:
         if answer.unmapped:
             yield {**lost, "reason": answer.unmapped, "detail": str(answer.goal), **_saved(call, answer)}
             continue
-        said = {"saves": call.save, "shows": call.version, "model": get(call.asked, "authorization_model_id") or None}
         yield {"event": "asked", "store": call.store, "began": text_of_time(call.began), "ended": ended, "goal": list(answer.goal[:5]),
-               "reply": answer.reply, "newest": newest, **{key: one for key, one in said.items() if one is not None}}
+               "reply": answer.reply, **{key: one for key, one in said.items() if one is not None}}
 
 
-def _newest(asked: object) -> bool:
-    found = get(asked, "consistency")
-    if isinstance(found, bool) or not isinstance(found, (str, int, type(None))) or found not in CONSISTENCY:
-        raise Bad(CONSISTENT)
-    return CONSISTENCY[found]
+def _of_model(call: Call) -> dict[str, Any]:
+    """What OpenFGA was asked to look at."""
+    return {"newest": call.save is not None or asks_for_newest(call.asked), "model": get(call.asked, "authorization_model_id") or None}
+
+
+def _of_tokens(call: Call) -> dict[str, Any]:
+    """What SpiceDB looked at, and what it was asked to; raises Bad."""
+    found = revision_at(call.answered)
+    if found.number is None:
+        raise Bad("a snapshot of PostgreSQL, which only ne import spicedb can place")
+    token = call.token if call.save is not None else demanded_by(call.asked)
+    return {"newest": get(get(call.asked, "consistency"), "fullyConsistent") is True, "snapshot": found.shown, "token": token}
 
 
 def _saved(call: Call, answer: Optional[Answer]) -> dict[str, Any]:
     """The version that a call may have saved which is not taken."""
     thing = None if answer is None else answer.goal[:2]
     if thing is None and call.save is not None:
-        found = get(get(call.asked, "tuple_key"), "object")
-        thing = tuple(found.split(":", 1)) if isinstance(found, str) and ":" in found else None  # type: ignore[assignment]
+        found, resource = get(get(call.asked, "tuple_key"), "object"), get(call.asked, "resource")
+        thing = tuple(found.split(":", 1)) if isinstance(found, str) and ":" in found else (  # type: ignore[assignment]
+            None if resource is None else (get(resource, "objectType"), get(resource, "objectId")))
     return {} if not call.save or thing is None else {"version": [*thing, call.save]}
+
+
+def _named(row: Row, value: Value) -> tuple[Optional[str], Optional[str], Optional[str]]:
+    """What is added to a printed line: the version that is saved, the one that is shown, and the token that is stored with the first."""
+    try:
+        content, version = content_of(value), text_or_none(value.get("version"), "version")
+        return text_or_none(get(content, "version"), "version"), version, text_or_none(get(content, "token"), "token")
+    except Bad as fault:
+        raise _fault(row, str(fault)) from None
+
+
+def _refuse_placed(row: Row, value: Value, service: str) -> None:
+    placed = next((key for key in PLACES if key in value), None)
+    if placed is not None:
+        raise _fault(row, "a line with `%s` has its place already; give the log to ne import %s" % (placed, service))
+
+
+# SpiceDB's log
+
+class Payloads:
+    """Goes through SpiceDB's log of requests and responses, which are joined by their ids."""
+
+    def __init__(self) -> None:
+        self.joining = printed.Joining()
+        # when each request was logged, by the number of its line
+        self.began: dict[int, int] = {}
+
+    def call(self, row: Row) -> Any:
+        """The call of a response, what is counted of another line, or None of a request; raises JoinFault."""
+        for key in printed.mistyped(row.value):
+            raise _fault(row, key.said())
+        at = nanoseconds(row.value.get("time"))
+        if at is None:
+            raise _fault(row, "the line has no `time` of RFC 3339")
+        _refuse_placed(row, row.value, "spicedb")
+        asked = self.joining.waiting.get(next((row.value[key] for key in printed.REQUEST_ID if isinstance(row.value.get(key), str)), ""))
+        if asked is None and printed.RESPONSE in row.value:
+            # The log begins behind its request.
+            value: Optional[Value] = {"method": row.value.get("grpc.method")}
+        else:
+            try:
+                value = self.joining.joined(row.value, row.line, SpiceDbLog.KEYS)
+            except Bad as fault:
+                raise _fault(row, str(fault)) from None
+        if value is None:
+            if printed.REQUEST in row.value:
+                self.began[row.line] = at
+            return None
+        if passing.failure_of(value, SpiceDbLog.DECIDES) is not None:
+            return FAILED
+        if passing.method_of(value) not in SpiceDbLog.DECISIONS:
+            return OTHER
+        save, version, token = _named(row, value)
+        why = causes.UNREADABLE if asked is None else None
+        began, ended = at if asked is None else self.began[asked[1]], at + (CUT if "." in row.value["time"] else SECOND)
+        return Call("", value.get("request"), value.get("response"), began, ended, save, version, why, "spicedb", token)
+
+    def left(self) -> Counter[str]:
+        """The requests that no line answers."""
+        return Counter({UNANSWERED: len(self.joining.left())} if self.joining.left() else ())
 
 
 # OpenFGA's log
@@ -123,11 +202,9 @@ def _logged(row: Row, took: int) -> Any:
     if "raw_request" not in given and not isinstance(given.get("grpc_method"), str):
         if printed.is_own_log(given):
             return None
-        raise _fault(row, "no line of OpenFGA's log in JSON, and no tap of Envoy's tap filter (`%s`)" % TAP)
+        raise _fault(row, "no line of OpenFGA's log in JSON, and no tap of Envoy's tap filter (`%s`)" % printed.TAP)
     value = printed.unwrapped(given, OpenFgaLog.KEYS)
-    placed = next((key for key in PLACES if key in value), None)
-    if placed is not None:
-        raise _fault(row, "a line with `%s` has its place already; give the log to ne import openfga" % placed)
+    _refuse_placed(row, value, "openfga")
     if passing.failure_of(value, OpenFgaLog.DECIDES) is not None:
         return FAILED
     if passing.method_of(value) not in OpenFgaLog.DECISIONS:
@@ -135,11 +212,7 @@ def _logged(row: Row, took: int) -> Any:
     ended = nanoseconds(value.get("time"))
     if ended is None:
         raise _fault(row, "the line has no `timestamp`, as seconds since 1970 or as a time of RFC 3339")
-    try:
-        content, version = content_of(value), text_or_none(value.get("version"), "version")
-        save, token = text_or_none(get(content, "version"), "version"), get(content, "token")
-    except Bad as fault:
-        raise _fault(row, str(fault)) from None
+    save, version, token = _named(row, value)
     asked = value.get("request")
     why = causes.UNREADABLE if asked is None else TOKEN if token is not None else None
     store = get(asked, "store_id") or given.get("store_id")
@@ -155,7 +228,7 @@ def _tapped(row: Row) -> Any:
     other = next((key for key in OTHER_TAPS if get(row.value, key) is not None), None)
     if other is not None:
         raise _fault(row, "a tap of the kind `%s`; set `streaming: false` in the tap filter of HTTP" % other)
-    request, response = (get(get(row.value, TAP), part) for part in ("request", "response"))
+    request, response = (get(get(row.value, printed.TAP), part) for part in ("request", "response"))
     asked, answered = _headers(row, request), _headers(row, response)
     method, path = asked.get(":method", [""])[0], path_of(asked.get(":path", [""])[0])
     is_grpc = asked.get("content-type", [""])[0].startswith("application/grpc")

@@ -1,124 +1,107 @@
-"""Messages of SpiceDB's gRPC as the JSON of its gateway, for the few fields that a recorder reads and writes.
+"""Messages of gRPC as the JSON of the service's gateway, for the few fields that a recorder reads and writes."""
+from typing import Any, Mapping, NamedTuple, Optional, Union
 
-The numbers are those of the public definitions, authzed.api.v1; fields that are not named here are passed over.
-"""
-from typing import Any, NamedTuple, Optional, Union
-
+from new_enemy_tools.importing.reading import Bad
+from new_enemy_tools.importing.times import text_of_time
 from new_enemy_tools.importing.zedtokens import fields
 
-PERMISSIONSHIP = ("PERMISSIONSHIP_UNSPECIFIED", "PERMISSIONSHIP_NO_PERMISSION", "PERMISSIONSHIP_HAS_PERMISSION",
-                  "PERMISSIONSHIP_CONDITIONAL_PERMISSION")
-FOUND = ("LOOKUP_PERMISSIONSHIP_UNSPECIFIED", "LOOKUP_PERMISSIONSHIP_HAS_PERMISSION", "LOOKUP_PERMISSIONSHIP_CONDITIONAL_PERMISSION")
-OPERATION = ("OPERATION_UNSPECIFIED", "OPERATION_CREATE", "OPERATION_TOUCH", "OPERATION_DELETE")
-KIND = ("WATCH_KIND_UNSPECIFIED", "WATCH_KIND_INCLUDE_RELATIONSHIP_UPDATES", "WATCH_KIND_INCLUDE_SCHEMA_UPDATES",
-        "WATCH_KIND_INCLUDE_CHECKPOINTS")
-TEXT, BOOL, ANY = "text", "bool", "any"
+TEXT, BOOL, NUMBER, ANY, TIME = "text", "bool", "number", "any", "time"
+SECOND = 10 ** 9
 
 
 class Field(NamedTuple):
-    """A field: its name in JSON, and what it is: a text, a boolean, anything at all, one of some names, or a message."""
+    """A field: its name in JSON, and what it is: a text, a boolean, a number, anything at all, a time, one of some names by their numbers,
+    or a message; `many` where it stands several times, `named` where these are the values of a map, which has no order."""
 
     name: str
-    kind: Union[str, tuple[str, ...]]
+    kind: Union[str, dict[int, str]]
     many: bool = False
+    named: bool = False
 
 
-TOKEN = {1: Field("token", TEXT)}
-ITEM = {1: Field("resource", "Object"), 2: Field("permission", TEXT), 3: Field("subject", "Subject"), 4: Field("context", ANY)}
-SHAPES: dict[str, dict[int, Field]] = {
-    "Token": TOKEN,
-    "Consistency": {1: Field("minimizeLatency", BOOL), 2: Field("atLeastAsFresh", "Token"), 3: Field("atExactSnapshot", "Token"),
-                    4: Field("fullyConsistent", BOOL)},
-    "Object": {1: Field("objectType", TEXT), 2: Field("objectId", TEXT)},
-    "Subject": {1: Field("object", "Object"), 2: Field("optionalRelation", TEXT)},
-    "Relationship": {1: Field("resource", "Object"), 2: Field("relation", TEXT), 3: Field("subject", "Subject"),
-                     4: Field("optionalCaveat", ANY), 5: Field("optionalExpiresAt", ANY)},
-    "Update": {1: Field("operation", OPERATION), 2: Field("relationship", "Relationship")},
-    "Filter": {1: Field("resourceType", TEXT)},
-    "CheckPermissionRequest": {1: Field("consistency", "Consistency"), 2: Field("resource", "Object"), 3: Field("permission", TEXT),
-                               4: Field("subject", "Subject"), 5: Field("context", ANY)},
-    "CheckPermissionResponse": {1: Field("checkedAt", "Token"), 2: Field("permissionship", PERMISSIONSHIP)},
-    "Item": ITEM,
-    "Answer": {1: Field("permissionship", PERMISSIONSHIP)},
-    "Pair": {1: Field("request", "Item"), 2: Field("item", "Answer"), 3: Field("error", ANY)},
-    "CheckBulkPermissionsRequest": {1: Field("consistency", "Consistency"), 2: Field("items", "Item", True)},
-    "CheckBulkPermissionsResponse": {1: Field("checkedAt", "Token"), 2: Field("pairs", "Pair", True)},
-    "LookupResourcesRequest": {1: Field("consistency", "Consistency"), 2: Field("resourceObjectType", TEXT),
-                               3: Field("permission", TEXT), 4: Field("subject", "Subject"), 5: Field("context", ANY)},
-    "LookupResourcesResponse": {1: Field("lookedUpAt", "Token"), 2: Field("resourceObjectId", TEXT), 3: Field("permissionship", FOUND)},
-    "LookupSubjectsRequest": {1: Field("consistency", "Consistency"), 2: Field("resource", "Object"), 3: Field("permission", TEXT),
-                              4: Field("subjectObjectType", TEXT), 5: Field("optionalSubjectRelation", TEXT), 6: Field("context", ANY)},
-    "LookupSubjectsResponse": {1: Field("lookedUpAt", "Token"), 2: Field("subjectObjectId", TEXT), 4: Field("permissionship", FOUND),
-                               6: Field("subject", "Resolved")},
-    "Resolved": {1: Field("subjectObjectId", TEXT), 2: Field("permissionship", FOUND)},
-    "WriteRelationshipsRequest": {}, "DeleteRelationshipsRequest": {},
-    "WriteRelationshipsResponse": {1: Field("writtenAt", "Token")},
-    "DeleteRelationshipsResponse": {1: Field("deletedAt", "Token")},
-    "ReadRelationshipsRequest": {1: Field("consistency", "Consistency"), 2: Field("relationshipFilter", "Filter")},
-    "ReadRelationshipsResponse": {1: Field("readAt", "Token"), 2: Field("relationship", "Relationship")},
-    "ReadSchemaRequest": {},
-    "ReadSchemaResponse": {1: Field("schemaText", TEXT), 2: Field("readAt", "Token")},
-    "WatchRequest": {2: Field("optionalStartCursor", "Token"), 4: Field("optionalUpdateKinds", KIND, True)},
-    "WatchResponse": {1: Field("updates", "Update", True), 2: Field("changesThrough", "Token"), 4: Field("schemaUpdated", BOOL),
-                      5: Field("isCheckpoint", BOOL)},
-}
+Shape = dict[int, Field]
 
 
-class Malformed(Exception):
+class Malformed(Bad):
     """Bytes that are no such message."""
 
 
-def read(shape: str, data: bytes) -> dict[str, Any]:
-    """A message as JSON; raises Malformed."""
+def numbered(*names: str) -> dict[int, str]:
+    return dict(enumerate(names))
+
+
+class Messages:
+    """The messages of an API by their names. Fields that are not named here are passed over, but for those of `strict`, which are refused."""
+
+    def __init__(self, shapes: Mapping[str, Shape], strict: frozenset[str] = frozenset()):
+        self.shapes, self.strict = shapes, strict
+
+    def read(self, shape: str, data: bytes) -> dict[str, Any]:
+        """A message as JSON; raises Malformed."""
+        known, found, made = self.shapes[shape], _fields(shape, data), dict[str, Any]()
+        unknown = found.keys() - known.keys() if shape in self.strict else ()
+        if unknown:
+            raise Malformed("%s has a field that is not known (%d)" % (shape, min(unknown)))
+        for number, field in known.items():
+            values = [self._value(shape, field, one) for one in found.get(number, ())]
+            if len(values) > 1 and not field.many and not field.named:
+                # Its parts would have to be put together as the service does.
+                raise Malformed("%s has a field twice (%s)" % (shape, field.name))
+            if values:
+                made[field.name] = dict(sorted(values)) if field.named else values if field.many else values[-1]
+            elif isinstance(field.kind, dict) and not field.many:
+                made[field.name] = field.kind[0]
+        return made
+
+    def _value(self, shape: str, field: Field, given: Union[int, bytes]) -> Any:
+        if field.named and isinstance(given, bytes):
+            entry = _fields(shape, given)
+            name, value = (entry.get(number, [b""])[-1] for number in (1, 2))
+            return self._value(shape, Field(field.name, TEXT), name), self._value(shape, Field(field.name, field.kind), value)
+        if field.kind == ANY:
+            return {"given": True} if given else {}
+        if isinstance(given, int):
+            if field.kind in (BOOL, NUMBER):
+                return bool(given) if field.kind == BOOL else given
+            if isinstance(field.kind, dict):
+                return field.kind.get(given, given)
+        elif field.kind == TEXT:
+            try:
+                return given.decode()
+            except UnicodeDecodeError:
+                raise Malformed("%s has a text that is no UTF-8 (%s)" % (shape, field.name)) from None
+        elif field.kind == TIME:
+            at = self.read("Timestamp", given)
+            return text_of_time(at.get("seconds", 0) * SECOND + at.get("nanos", 0))
+        elif isinstance(field.kind, str) and field.kind in self.shapes:
+            return self.read(field.kind, given)
+        raise Malformed("%s has a field of another form (%s)" % (shape, field.name))
+
+    def written(self, shape: str, value: dict[str, Any]) -> bytes:
+        """A message of JSON that has the fields of its shape alone."""
+        made = b""
+        for number, field in self.shapes[shape].items():
+            given = value.get(field.name)
+            for one in given if field.many and given is not None else [given]:
+                made += self._written(number, field, one)
+        return made
+
+    def _written(self, number: int, field: Field, given: Optional[Any]) -> bytes:
+        if given is None:
+            return b""
+        if field.kind in (BOOL, NUMBER):
+            return _varint(number << 3) + _varint(int(given))
+        if isinstance(field.kind, dict):
+            return _varint(number << 3) + _varint(next(key for key, name in field.kind.items() if name == given))
+        data: bytes = given.encode() if field.kind == TEXT else self.written(str(field.kind), given)
+        return _varint(number << 3 | 2) + _varint(len(data)) + data
+
+
+def _fields(shape: str, data: bytes) -> dict[int, list[Any]]:
     try:
-        found = fields(data)
+        return fields(data)
     except Exception:
-        raise Malformed from None
-    made: dict[str, Any] = {}
-    for number, field in SHAPES[shape].items():
-        values = [_value(field, one) for one in found.get(number, ())]
-        if values:
-            made[field.name] = values if field.many else values[-1]
-        elif isinstance(field.kind, tuple) and not field.many:
-            made[field.name] = field.kind[0]
-    return made
-
-
-def _value(field: Field, given: Union[int, bytes]) -> Any:
-    if field.kind == ANY:
-        return {"given": True} if given else {}
-    if isinstance(given, int):
-        if field.kind == BOOL:
-            return bool(given)
-        if isinstance(field.kind, tuple):
-            return field.kind[given] if given < len(field.kind) else field.kind[0]
-    elif field.kind == TEXT:
-        try:
-            return given.decode()
-        except UnicodeDecodeError:
-            raise Malformed from None
-    elif isinstance(field.kind, str) and field.kind in SHAPES:
-        return read(field.kind, given)
-    raise Malformed
-
-
-def written(shape: str, value: dict[str, Any]) -> bytes:
-    """A message of JSON that has the fields of its shape alone."""
-    made = b""
-    for number, field in SHAPES[shape].items():
-        given = value.get(field.name)
-        for one in given if field.many and given is not None else [given]:
-            made += _written(number, field, one)
-    return made
-
-
-def _written(number: int, field: Field, given: Optional[Any]) -> bytes:
-    if given is None:
-        return b""
-    if field.kind == BOOL or isinstance(field.kind, tuple):
-        return _varint(number << 3) + _varint(int(given) if field.kind == BOOL else field.kind.index(given))
-    data: bytes = given.encode() if field.kind == TEXT else written(str(field.kind), given)
-    return _varint(number << 3 | 2) + _varint(len(data)) + data
+        raise Malformed("a message of gRPC can't be read (%s)" % shape) from None
 
 
 def _varint(value: int) -> bytes:

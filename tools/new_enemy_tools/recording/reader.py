@@ -9,7 +9,7 @@ from collections import deque
 from typing import Callable, Optional
 
 from new_enemy_tools.recording.http_reading import Head, Messages, Strange, path_of
-from new_enemy_tools.recording.messages import CHECKS, Ended, Started, Teller
+from new_enemy_tools.recording.messages import TOLD, Ended, Started, Teller
 
 NUMBERS = itertools.count(1)
 Call = Callable[[str, str], Optional[str]]
@@ -17,8 +17,6 @@ Call = Callable[[str, str], Optional[str]]
 UNREAD = 200
 # A longer request of a check goes on in pieces, and is a gap.
 HELD = 1 << 20
-# Calls that are told when they are passed on.
-TOLD = CHECKS | {"write"}
 LABELS = {name: "x-content-" + name for name in ("save", "version", "token")}
 
 
@@ -231,5 +229,5 @@ class Reader:
             return
         exchange = self.exchanges.popleft()
         exchange.is_answered = True
-        if exchange.is_told or exchange.call == "rules":
+        if exchange.is_told:
             self.teller.tell(exchange.ended(body))

@@ -16,8 +16,8 @@ ROOM = 2 << 20
 class Side(asyncio.Protocol):
     """One end of a connection; what comes goes to the other end."""
 
-    def __init__(self, reader: Reader, is_client: bool):
-        self.reader, self.is_client = reader, is_client
+    def __init__(self, relay: "Relay", reader: Reader, is_client: bool):
+        self.relay, self.reader, self.is_client = relay, reader, is_client
         self.transport: Any = None
         self.other: Optional["Side"] = None
         self.has_ended = False
@@ -38,10 +38,9 @@ class Side(asyncio.Protocol):
             self.pass_on(self.other, self)
 
     def pass_on(self, client: "Side", service: "Side") -> None:
-        """Passes on what may go on to the service. The beginning of a check has been told before the service can answer it."""
+        """Passes on what may go on to the service, and what was told."""
         data = self.reader.passing()
-        if data:
-            service.transport.write(data)
+        self.relay.put(service.transport, data)
         client.is_full = self.reader.waits() > ROOM
         client.read_or_pause()
 
@@ -62,11 +61,13 @@ class Side(asyncio.Protocol):
             self.reader.end()
         if self.other is None or self.other.has_ended or not self.other.transport.can_write_eof():
             return False
+        self.relay.go_on()
         self.other.transport.write_eof()
         return True
 
     def connection_lost(self, fault: Optional[Exception]) -> None:
         self.reader.end()
+        self.relay.go_on()
         if self.other is not None:
             self.other.transport.close()
 
@@ -92,8 +93,28 @@ class Relay:
         self.context = context_of(ca) if self.secure else None
         self.server: Any = None
         self.is_over = False
+        # what goes on to the service when what was told of it has been written
+        self.going: list[tuple[Any, bytes]] = []
+        self.is_due = False
+        teller.gathers = True
         self.tasks: set[asyncio.Task[Any]] = set()
         self.open: set[Client] = set()
+
+    def put(self, transport: Any, data: bytes) -> None:
+        """Takes what goes on to the service, together with all else that comes at once."""
+        if data:
+            self.going.append((transport, data))
+        if not self.is_due:
+            self.is_due = True
+            asyncio.get_running_loop().call_soon(self.go_on)
+
+    def go_on(self) -> None:
+        """The beginning of a check has been told before the service can answer it."""
+        self.is_due = False
+        self.teller.flush()
+        going, self.going = self.going, []
+        for transport, data in going:
+            transport.write(data)
 
     def is_busy(self) -> bool:
         """Whether some request has no answer yet."""
@@ -129,7 +150,7 @@ class Relay:
 
     async def connect(self, client: "Client") -> None:
         """Opens the connection to the service; where that fails, the client's is closed, as the service would refuse it."""
-        service = Side(client.reader, False)
+        service = Side(self, client.reader, False)
         service.other = client
         try:
             await asyncio.get_running_loop().create_connection(
@@ -144,8 +165,7 @@ class Client(Side):
     """The end of a client, whose bytes wait until the service is there."""
 
     def __init__(self, relay: Relay):
-        super().__init__(Reader(relay.teller, relay.call_of), True)
-        self.relay = relay
+        super().__init__(relay, Reader(relay.teller, relay.call_of), True)
         self.early = bytearray()
 
     def begin(self, service: Side) -> None:

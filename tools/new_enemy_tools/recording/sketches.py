@@ -11,6 +11,8 @@ Value = dict[str, Any]
 # The type and id of an object, and the label of a version of it.
 Version = tuple[str, str, str]
 JOINED = "joined "
+# Behind all revisions.
+FAR = 1 << 200
 
 
 class JoinFault(ToolFault):
@@ -94,6 +96,9 @@ class Sketch:
         self.is_base = True
         # from when to when the log has all changes, where it says when each came; and until when it had them when the last came
         self.timed = (0, 0)
+        # of SpiceDB since when all changes up to each revision were known; and from which one to before which one the rules are not
+        self.reads: list[tuple[int, int]] = []
+        self.unsure: list[tuple[int, int]] = []
         self._pending: list[Value] = []
         self._rules_change: Optional[Change] = None
         for row in given.rows():
@@ -118,6 +123,10 @@ class Sketch:
         elif event == "read":
             until = nanoseconds(value.get("until")) or 0
             self.timed = (self.timed[0] or until, until)
+            if value.get("unsure"):
+                self.unsure.append((value["revision"], FAR))
+            elif value.get("revision") is not None:
+                self.reads.append((until, value["revision"]))
         elif event == "place":
             self._take_place(value)
         elif event in ("write", "rules"):
@@ -159,6 +168,8 @@ class Sketch:
         if value.get("revision") is None:
             self.rules = value
             return
+        if value["event"] == "rules":
+            self.unsure = [(start, min(end, value["revision"])) for start, end in self.unsure]
         change = Change(self._key(value, tuples), value, tuples)
         change.before, self._pending = self._pending, []
         if value.get("came") is not None:

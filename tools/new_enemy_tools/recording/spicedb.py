@@ -2,7 +2,6 @@
 
 A revision is the one in the service's tokens, or on PostgreSQL the number of a commit. A reply says by `checkedAt` which it was computed on.
 """
-import json
 import time
 from collections import deque
 from functools import partial
@@ -17,13 +16,15 @@ from new_enemy_tools.importing.spicedb_answers import answers_of, relationship_o
 from new_enemy_tools.importing.spicedb_schema import Parser
 from new_enemy_tools.importing.zedtokens import Older, Revision, Snapshot, read_revision
 from new_enemy_tools.recording.asking import FeedFault
-from new_enemy_tools.recording.grpc_calls import GRPC, decoded
-from new_enemy_tools.recording.core import Asked, Begun, Core, body_of
-from new_enemy_tools.recording.lines import base_lines, write_line
+from new_enemy_tools.recording.bodies import UNHEARD, request_of, response_of
+from new_enemy_tools.recording.core import Asked, Begun, Core
+from new_enemy_tools.recording.lines import base_lines, line, time_text, write_line
 from new_enemy_tools.recording.log_files import Left, Place
 from new_enemy_tools.recording.messages import Ended, Started
+from new_enemy_tools.recording.own_events import UNSURE
 from new_enemy_tools.recording.ruled import Takes, Unread, refuse_unread, ruled
 from new_enemy_tools.recording.sequencer import Commit, Known
+from new_enemy_tools.recording.sketches import FAR
 from new_enemy_tools.recording.transactions import Transactions
 
 CALLS = {"/v1/permissions/check": "check", "/v1/permissions/checkbulk": "batch",
@@ -31,11 +32,10 @@ CALLS = {"/v1/permissions/check": "check", "/v1/permissions/checkbulk": "batch",
          "/v1/permissions/subjects": "stream", "/v1/relationships/write": "write", "/v1/relationships/delete": "write"}
 # A stream that ended is opened again after so long.
 AGAIN = 0.05
-# Behind all revisions.
-FAR = 1 << 200
-UNSURE = "the rules at a snapshot are not known"
 # Of so many transactions it is remembered that they came.
 RECENT = 10_000
+# Where no changes come, a log of the changes alone says so this often, as far as there are checkpoints.
+TOLD = 10 ** 9
 
 
 def call_of(method: str, path: str) -> Optional[str]:
@@ -124,14 +124,10 @@ def read_rules(text: str) -> tuple[Optional[ServiceRules], Refusals]:
     return Parser(text, "the schema", refusals).schema(), refusals
 
 
-def _demand(request: Any) -> Any:
+def demanded_by(request: Any) -> Any:
     """The token that a request demands to be seen."""
     consistency = get(request, "consistency")
     return get(get(consistency, "atLeastAsFresh") or get(consistency, "atExactSnapshot"), "token")
-
-
-def _request_of(message: Ended) -> Any:
-    return json.loads(message.request or b"")
 
 
 def _traits(given: object) -> Optional[str]:
@@ -141,8 +137,9 @@ def _traits(given: object) -> Optional[str]:
 class Feed:
     """Reads the changes, in a thread of its own."""
 
-    def __init__(self, source: Source):
-        self.source = source
+    def __init__(self, source: Source, is_alone: bool = False):
+        """`is_alone` where the changes alone are recorded, and joined with what others say of the checks."""
+        self.source, self.is_alone = source, is_alone
         self.token: Optional[str] = None
         # the last number, or the last transactions, that came; and how many to come an earlier log has
         self.number = 0
@@ -175,6 +172,8 @@ class Feed:
         if left is not None:
             token = left.place.cursor or token
         revision = revision_of(token)
+        if self.is_alone and revision.snapshot is not None:
+            raise FeedFault("the changes alone of SpiceDB on PostgreSQL can't be joined with checks; give its logs to ne import spicedb", True)
         if left is not None:
             self.token, self.known = token, left.behind if revision.snapshot else 0
             self.number = left.revision
@@ -209,9 +208,11 @@ class Feed:
 
     def _is_old(self, revision: Revision, response: Any) -> bool:
         """Whether a response came before, as it may where a stream is opened again."""
-        if revision.snapshot is None:
-            return (revision.number or 0) <= self.number
         has_change = bool(get(response, "updates") or get(response, "schemaUpdated"))
+        if revision.snapshot is None:
+            # That there is still nothing more matters where checks are told by others.
+            is_again = self.is_alone and not has_change
+            return (revision.number or 0) < self.number + (0 if is_again else 1)
         if has_change and revision.snapshot.own is None:
             raise Bad("the snapshot of a change does not name the transaction that wrote")
         return has_change and revision.snapshot.own in self.recent
@@ -251,7 +252,9 @@ class Answered(NamedTuple):
 
 
 class SpiceDb:
-    def __init__(self) -> None:
+    def __init__(self, tells: bool = False) -> None:
+        """`tells` says whether the log has when all up to a revision was known, for checks that do not pass here."""
+        self.tells, self.told = tells, 0
         self.history, self.base = Known(), 0
         self.takes = Takes()
         self.unsure: list[Unsure] = []
@@ -271,6 +274,7 @@ class SpiceDb:
                 message = message._replace(start=self.transactions.count)
             self.unsure.append(message)
             core.lose("the schema changed twice before its text was read", 0, 0)
+            self._tell(message.start, core.now.clock, core, True)
             # What waits was put there when these rules were not known to be unsure.
             start = message.start
             core.lose_entries(lambda one: one.place >= start, UNSURE)
@@ -287,11 +291,12 @@ class SpiceDb:
         lines: list[bytes] = []
         if left is None:
             kept, unmapped = self.takes.sorted_out(base.relationships)
-            lines = [rules.data, unmapped, *base_lines(revision, kept)]
+            lines = [rules.data, unmapped, *base_lines(revision, kept), self._read(revision, core.now.wall)]
         elif left.place.rules != rules.hash and self.transactions is None:
             # Nothing was recorded meanwhile, so it does not matter where in between they changed.
             revision += 1
-            lines = [rules.data]
+            # Where they changed, Watch says when it comes to it.
+            lines = [rules.data, self._read(revision, core.now.wall, True)]
         self.base = revision if left is None else left.base
         self.history = Known(revision)
         core.sequencer.reached = revision
@@ -332,11 +337,24 @@ class SpiceDb:
             except Unread as fault:
                 core.say(str(fault))
                 self.unsure.append(Unsure(revision, FAR))
+                self._tell(revision, message.received, core, True)
                 core.lose("a schema that can't be read", 0, 0)
         elif message.updates:
             core.put_commit(self._commit(message, revision, core.now.wall - (core.now.clock - message.received)))
         else:
             self._checkpoint(message, revision, core)
+        if message.updates or message.rules is not None or message.received - self.told > TOLD:
+            self._tell(revision, message.received, core)
+
+    def _tell(self, revision: int, clock: int, core: Core, unsure: Optional[bool] = None) -> None:
+        """Since when all changes up to a revision are known, where the log has that; or from which one on the rules are not."""
+        if self.tells:
+            self.told = clock if unsure is None else self.told
+            data = self._read(revision, core.now.wall - (core.now.clock - clock), unsure)
+            core.put_commit(Commit(revision, data, clock, changes=0))
+
+    def _read(self, revision: int, at: int, unsure: Optional[bool] = None) -> bytes:
+        return line("read", until=time_text(at), revision=revision, unsure=unsure) if self.tells else b""
 
     def _commit(self, message: Watched, revision: int, came: int) -> Commit:
         """The changes of a response, and when it came, by the wall clock."""
@@ -377,7 +395,7 @@ class SpiceDb:
     def end(self, message: Ended, asked: Asked, core: Core) -> None:
         if message.call == "write" and not 200 <= message.status < 300:
             return
-        request, response = decoded(message) if message.encoding == GRPC else (_request_of(message), body_of(message))
+        request, response = request_of(message), response_of(message)
         if message.call == "write":
             revision = revision_of(get(get(response, "writtenAt") or get(response, "deletedAt"), "token"))
             if revision.number is not None:
@@ -391,7 +409,7 @@ class SpiceDb:
 
     def decided(self, message: Ended, request: Any, response: Any, asked: Asked, core: Core) -> None:
         """Puts the decisions of a call behind all that it saw, and behind all that was surely visible when it began."""
-        answers = list(answers_of(request, response, Refusals())) if response else []
+        answers = list(answers_of(request, response, UNHEARD)) if response else []
         if not answers:
             core.forget(message.number)
             return
@@ -399,7 +417,7 @@ class SpiceDb:
         if (revision.number is None) != (self.transactions is not None):
             raise Bad("a token is of another datastore than those of the changes")
         if revision.snapshot is not None:
-            token = _demand(request) if message.save is None else message.token
+            token = demanded_by(request) if message.save is None else message.token
             demanded = None if token is None else revision_of(token).snapshot
             self._learn(Answered(message.at, message.clock, revision.snapshot))
             self._wait(Waiting(message, request, answers, asked.clock, revision.snapshot, demanded), core)
@@ -437,7 +455,7 @@ class SpiceDb:
         """What is stored with content, or what the request demanded."""
         if message.save is not None:
             return snapshot if message.token is None else self._demanded(message.token)
-        demanded = _demand(request)
+        demanded = demanded_by(request)
         if demanded is not None:
             return self._demanded(demanded)
         if not get(get(request, "consistency"), "fullyConsistent"):

@@ -1,0 +1,60 @@
+"""What a call asked and answered, as JSON: by the bodies of HTTP, or by the messages of gRPC."""
+import gzip
+import json
+import zlib
+from typing import Any
+
+from new_enemy_tools.importing.reading import Bad
+from new_enemy_tools.importing.refusals import Refusals
+from new_enemy_tools.recording.grpc_calls import GRPC, answered, asked
+from new_enemy_tools.recording.messages import Ended
+
+# An answer is read up to so many bytes, also where it comes compressed.
+BODY = 16 << 20
+
+
+class Unheard(Refusals):
+    """Takes what answers pass over, which nobody asks for here."""
+
+    def pass_over(self, kind: str) -> None:
+        """Nobody asks."""
+
+
+UNHEARD = Unheard()
+
+
+def _unpacked(data: bytes) -> bytes:
+    """What was compressed, as far as an answer is read; raises Bad where it is longer, ValueError where it is cut or none."""
+    reader = zlib.decompressobj(16 + zlib.MAX_WBITS)
+    try:
+        found = reader.decompress(data, BODY + 1)
+    except zlib.error:
+        raise ValueError from None
+    if len(found) > BODY:
+        raise Bad("an answer was too long to be kept")
+    if not reader.eof:
+        raise ValueError
+    # What is packed in several pieces is rare, and small where it is read.
+    return gzip.decompress(data) if reader.unused_data and len(data) < BODY >> 10 else found
+
+
+def body_of(message: Ended) -> Any:
+    """The JSON of an answer, of one value or a line for each; raises ValueError, or Bad where it is too long."""
+    data = message.response or b""
+    if message.encoding == "gzip":
+        data = _unpacked(data)
+    elif message.encoding not in (None, "", "identity"):
+        raise ValueError
+    if message.call != "stream":
+        return json.loads(data)
+    return [json.loads(one) for one in data.split(b"\n") if one.strip()]
+
+
+def request_of(message: Ended) -> Any:
+    """The JSON of a request; raises ValueError, or Bad where it is of gRPC."""
+    return asked(message) if message.encoding == GRPC else json.loads(message.request or b"")
+
+
+def response_of(message: Ended) -> Any:
+    """The JSON of an answer, a list where it is streamed; raises as `request_of` does."""
+    return answered(message) if message.encoding == GRPC else body_of(message)
