@@ -43,12 +43,12 @@ same_from t test one other i [] same = refl
 same_from t test one other i (e ∷ es) same =
     ap (λ (fs : List Finding). fs ++ told_from test t one (i + 1) es)
     (same_of t test (steps_of one i) (steps_of other i) i e (λ is.
-        let here : i + 0 ≡ i = omega arith in
-        sym (ap (steps_of one) here) ∙ same 0 e refl is ∙ ap (steps_of other) here))
+    let here : i + 0 ≡ i = omega arith in
+    sym (ap (steps_of one) here) ∙ same 0 e refl is ∙ ap (steps_of other) here))
     ∙ ap (λ (fs : List Finding). told_of t test (steps_of other i) i e ++ fs)
     (same_from t test one other (i + 1) es (λ j x at is.
-        let next : i + suc j ≡ i + 1 + j = omega arith in
-        sym (ap (steps_of one) next) ∙ same (suc j) x at is ∙ ap (steps_of other) next))
+    let next : i + suc j ≡ i + 1 + j = omega arith in
+    sym (ap (steps_of one) next) ∙ same (suc j) x at is ∙ ap (steps_of other) next))
 
 -- nothing is told where each entry is silent
 none_told : (t : TraceValue) (test : Option ℕ → Bool) (given : List (Option (List StepValue))) (i : ℕ) (es : List EntryValue)
@@ -59,13 +59,13 @@ none_told t test given i (e ∷ es) silent =
     ap (λ (fs : List Finding). fs ++ told_from test t given (i + 1) es)
     (subst (λ (n : ℕ). told_of t test (steps_of given i) n e ≡ []) here ((silent 0 e refl).0 (steps_of given i)))
     ∙ none_told t test given (i + 1) es (λ j x at.
-        let next : i + suc j ≡ i + 1 + j = omega arith in subst (λ (n : ℕ). IsSilent t test n x) next (silent (suc j) x at))
+    let next : i + suc j ≡ i + 1 + j = omega arith in subst (λ (n : ℕ). IsSilent t test n x) next (silent (suc j) x at))
 
 -- ---- steps of two evidences
 
 -- those of one, but of another for what is settled at some moments
-pick : (t : TraceValue) (test : Option ℕ → Bool) (one other : List (Option (List StepValue))) (i : ℕ) (es : List EntryValue)
-    → List (Option (List StepValue))
+abbrev pick : (t : TraceValue) (test : Option ℕ → Bool) (one other : List (Option (List StepValue))) (i : ℕ)
+    (es : List EntryValue) → List (Option (List StepValue))
 pick t test one other i [] = []
 pick t test one other i (e ∷ es) =
     cond (test (settling_line t e)) (steps_of other i) (steps_of one i) ∷ pick t test one other (i + 1) es
@@ -133,8 +133,8 @@ same_before t one other zero same = refl
 same_before t one other (suc k) same =
     ap (λ (fs : List Finding). fs ++ told_on t one k) (same_before t one other k (λ i e at l is lt. same i e at l is (omega (arith, lt))))
     ∙ ap (λ (fs : List Finding). told_before t other k ++ fs) (same_from t (is_at k) one other 0 t.entries (λ j e at is.
-        let here : 0 + j ≡ j = omega arith in
-        ap (steps_of one) here ∙ same j e at k (line_at k (settling_line t e) is) (omega arith) ∙ sym (ap (steps_of other) here)))
+    let here : 0 + j ≡ j = omega arith in
+    ap (steps_of one) here ∙ same j e at k (line_at k (settling_line t e) is) (omega arith) ∙ sym (ap (steps_of other) here)))
   where
     line_at : (k : ℕ) (o : Option ℕ) → is_at k o ≡ true → o ≡ Some k
     line_at k None is = absurd cc
@@ -144,41 +144,41 @@ module _ (t : TraceValue) (placed : AreInPlace t) (rising : IsStrictlyIncreasing
   commits : HasPlacedCommits t
   commits = placed.commits
 
+  no_entry : (m : Monitor) (k n : ℕ) → IsUpTo t m k → IsUpTo t m (suc n) → k < suc n → (j : ℕ) (e : EntryValue)
+      → slice_get t.entries j ≡ Some e → e.line ≡ n → ⊥
+  no_entry m k n low high from j e at same = elim (cases_lt j m.entries) [
+    | inl taken ↦ let below = low.entries_before j e at taken in omega (arith, below, same, from)
+    | inr left ↦ let above = high.entries_from j e at left in omega (arith, above, same)
+  ]
+
+  no_commit : (m : Monitor) (k n : ℕ) → IsUpTo t m k → IsUpTo t m (suc n) → k < suc n → (c : ℕ) → c < length t.commits
+      → line_of t c ≡ n → ⊥
+  no_commit m k n low high from c inside same = elim (cases_lt c m.commits) [
+    | inl taken ↦ let below = low.commits_before c inside taken in omega (arith, below, same, from)
+    | inr left ↦ let above = high.commits_from c inside left in omega (arith, above, same)
+  ]
+
+  lowered : (m : Monitor) (k n : ℕ) → IsUpTo t m k → IsUpTo t m (suc n) → k < suc n → IsUpTo t m n
+  lowered m k n low high from = record {
+    entries_before = λ i e at taken. let below = low.entries_before i e at taken in omega (arith, below, from);
+    entries_from = λ i e at left. let above = high.entries_from i e at left in omega (arith, above);
+    commits_before = λ c inside taken. let below = low.commits_before c inside taken in omega (arith, below, from);
+    commits_from = λ c inside left. let above = high.commits_from c inside left in omega (arith, above);
+  }
+
   -- lines at which nothing was taken tell nothing
   quiet : (m : Monitor) (k n : ℕ) → IsUpTo t m k → IsUpTo t m n → k ≤ n → (given : List (Option (List StepValue)))
       → told_before t given n ≡ told_before t given k
   quiet m k zero low high le given = ap (told_before t given) (let z : zero ≡ k = omega (arith, le) in z)
   quiet m k (suc n) low high le given = elim (cases_lt k (suc n)) [
-      | inr ge ↦ ap (told_before t given) (let z : suc n ≡ k = omega (arith, le, ge) in z)
-      | inl lt ↦
-          let none : told_on t given n ≡ [] = none_told t (is_at n) given 0 t.entries (λ j e at. silent_off t placed rising n (0 + j) e
-              (subst (λ (i : ℕ). slice_get t.entries i ≡ Some e) (let z : j ≡ 0 + j = omega arith in z) at)
-              (λ same. no_entry (suc n) high n (omega arith) lt j e at same)
-              (λ c inside same. no_commit (suc n) high n (omega arith) lt c inside same)) in
-          ap (λ (fs : List Finding). told_before t given n ++ fs) none ∙ append-nil (told_before t given n)
-          ∙ quiet m k n low (lowered n lt) (omega (arith, lt)) given
-    ]
-    where
-      no_entry : (top : ℕ) → IsUpTo t m top → (n : ℕ) → n < top → k < suc n → (j : ℕ) (e : EntryValue) → slice_get t.entries j ≡ Some e
-          → e.line ≡ n → ⊥
-      no_entry top up n lt from j e at same = elim (cases_lt j m.entries) [
-          | inl taken ↦ let below = low.entries_before j e at taken in omega (arith, below, same, from)
-          | inr left ↦ let above = up.entries_from j e at left in omega (arith, above, same, lt)
-        ]
-
-      no_commit : (top : ℕ) → IsUpTo t m top → (n : ℕ) → n < top → k < suc n → (c : ℕ) → c < length t.commits → line_of t c ≡ n → ⊥
-      no_commit top up n lt from c inside same = elim (cases_lt c m.commits) [
-          | inl taken ↦ let below = low.commits_before c inside taken in omega (arith, below, same, from)
-          | inr left ↦ let above = up.commits_from c inside left in omega (arith, above, same, lt)
-        ]
-
-      lowered : (n : ℕ) → k < suc n → IsUpTo t m n
-      lowered n lt = record {
-        entries_before = λ i e at taken. let below = low.entries_before i e at taken in omega (arith, below, lt);
-        entries_from = λ i e at left. let above = high.entries_from i e at left in omega (arith, above);
-        commits_before = λ c inside taken. let below = low.commits_before c inside taken in omega (arith, below, lt);
-        commits_from = λ c inside left. let above = high.commits_from c inside left in omega (arith, above);
-      }
+    | inr ge ↦ ap (told_before t given) (let z : suc n ≡ k = omega (arith, le, ge) in z)
+    | inl lt ↦
+        let none : told_on t given n ≡ [] = none_told t (is_at n) given 0 t.entries (λ j e at. silent_off t placed rising n (0 + j) e
+        (subst (λ (i : ℕ). slice_get t.entries i ≡ Some e) (let z : j ≡ 0 + j = omega arith in z) at)
+        (no_entry m k n low high lt j e at) (no_commit m k n low high lt)) in
+        ap (λ (fs : List Finding). told_before t given n ++ fs) none ∙ append-nil (told_before t given n)
+        ∙ quiet m k n low (lowered m k n low high lt) (omega (arith, lt)) given
+  ]
 
   -- ---- a line is taken
 
@@ -192,8 +192,7 @@ module _ (t : TraceValue) (placed : AreInPlace t) (rising : IsStrictlyIncreasing
       let same = takes.commits in
       let le : k ≤ l = omega (arith, from, line) in
       let later : (c : ℕ) → c < length t.commits → m.commits ≤ c → l < line_of t c = λ c inside left.
-          let up = line_later t commits e (placed_at t placed m.entries e takes.there) c (omega (arith, left, before)) inside in omega (arith, up, line) in
-      (
+      let up = line_later t commits e (placed_at t placed m.entries e takes.there) c (omega (arith, left, before)) inside in omega (arith, up, line) in (
         le,
         record {
           entries_before = λ i x at taken. let below = up.entries_before i x at taken in omega (arith, below, le);
@@ -231,8 +230,7 @@ module _ (t : TraceValue) (placed : AreInPlace t) (rising : IsStrictlyIncreasing
       let same = takes.entries in
       let le : k ≤ l = omega (arith, from, line) in
       let later : (i : ℕ) (x : EntryValue) → slice_get t.entries i ≡ Some x → m.entries ≤ i → l < x.line = λ i x at left.
-          let up = line_earlier t commits x (placed_at t placed i x at) m.commits (next.behind i x at left) in omega (arith, up, line) in
-      (
+      let up = line_earlier t commits x (placed_at t placed i x at) m.commits (next.behind i x at left) in omega (arith, up, line) in (
         le,
         record {
           entries_before = λ i x at taken. let below = up.entries_before i x at taken in omega (arith, below, le);
@@ -258,15 +256,15 @@ module _ (t : TraceValue) (placed : AreInPlace t) (rising : IsStrictlyIncreasing
   settled_apart : (m : Monitor) (k l : ℕ) → IsUpTo t m k → IsUpTo t m l → (i : ℕ) (e : EntryValue) → slice_get t.entries i ≡ Some e
       → (s : ℕ) → settling_line t e ≡ Some s → s < l → s < k
   settled_apart m k l low high i e at s is lt = elim (settles_at_event t commits e (placed_at t placed i e at) s is) [
-      | inl own ↦ elim (cases_lt i m.entries) [
-        | inl taken ↦ let below = low.entries_before i e at taken in omega (arith, below, own)
-        | inr left ↦ let above = high.entries_from i e at left in absurd (omega (arith, above, own, lt))
-      ]
-      | inr (c, inside, there) ↦ elim (cases_lt c m.commits) [
-        | inl taken ↦ let below = low.commits_before c inside taken in omega (arith, below, there)
-        | inr left ↦ let above = high.commits_from c inside left in absurd (omega (arith, above, there, lt))
-      ]
+    | inl own ↦ elim (cases_lt i m.entries) [
+      | inl taken ↦ let below = low.entries_before i e at taken in omega (arith, below, own)
+      | inr left ↦ let above = high.entries_from i e at left in absurd (omega (arith, above, own, lt))
     ]
+    | inr (c, inside, there) ↦ elim (cases_lt c m.commits) [
+      | inl taken ↦ let below = low.commits_before c inside taken in omega (arith, below, there)
+      | inr left ↦ let above = high.commits_from c inside left in absurd (omega (arith, above, there, lt))
+    ]
+  ]
 
   module _ (Allows : TraceValue → EntryValue → Option (List StepValue) → Type 0) where
     pub told_first : (m : Monitor) → m.entries ≡ 0 → m.commits ≡ 0 → (old : List Finding) → IsTold Allows t m old old
@@ -289,14 +287,14 @@ module _ (t : TraceValue) (placed : AreInPlace t) (rising : IsStrictlyIncreasing
         let k = so_far.line in
         let up = raised m n k l so_far.up_to takes in
         let before : told_before t (both t (is_at l) so_far.given further) l ≡ told_before t so_far.given k =
-            quiet m k l so_far.up_to up.1 up.0 (both t (is_at l) so_far.given further)
-            ∙ same_before t (both t (is_at l) so_far.given further) so_far.given k (λ i e at s is lt.
-                let le = up.0 in
-                picked_one t (is_at l) so_far.given further i e at (ap (is_at l) is ∙ not_at l s (λ same. omega (arith, same, lt, le)))) in
+        quiet m k l so_far.up_to up.1 up.0 (both t (is_at l) so_far.given further)
+        ∙ same_before t (both t (is_at l) so_far.given further) so_far.given k (λ i e at s is lt.
+        let le = up.0 in
+        picked_one t (is_at l) so_far.given further i e at (ap (is_at l) is ∙ not_at l s (λ same. omega (arith, same, lt, le)))) in
         let here : told_on t (both t (is_at l) so_far.given further) l ≡ told_on t further l =
-            same_from t (is_at l) (both t (is_at l) so_far.given further) further 0 t.entries (λ j e at is.
-                let z : 0 + j ≡ j = omega arith in
-                ap (steps_of (both t (is_at l) so_far.given further)) z ∙ picked_other t (is_at l) so_far.given further j e at is ∙ sym (ap (steps_of further) z)) in
+        same_from t (is_at l) (both t (is_at l) so_far.given further) further 0 t.entries (λ j e at is.
+        let z : 0 + j ≡ j = omega arith in
+        ap (steps_of (both t (is_at l) so_far.given further)) z ∙ picked_other t (is_at l) so_far.given further j e at is ∙ sym (ap (steps_of further) z)) in
         record {
           line = suc l;
           given = both t (is_at l) so_far.given further;
@@ -331,13 +329,12 @@ module _ (t : TraceValue) (placed : AreInPlace t) (rising : IsStrictlyIncreasing
         } in
         let given = both t is_none so_far.given last in
         let before : told_before t given n ≡ told_before t so_far.given k =
-            quiet m k n so_far.up_to high (omega arith) given
-            ∙ same_before t given so_far.given k (λ i e at s is lt. picked_one t is_none so_far.given last i e at (ap is_none is)) in
+        quiet m k n so_far.up_to high (omega arith) given
+        ∙ same_before t given so_far.given k (λ i e at s is lt. picked_one t is_none so_far.given last i e at (ap is_none is)) in
         let end : told_from is_none t given 0 t.entries ≡ told_from is_none t last 0 t.entries =
-            same_from t is_none given last 0 t.entries (λ j e at is.
-                let z : 0 + j ≡ j = omega arith in
-                ap (steps_of given) z ∙ picked_other t is_none so_far.given last j e at is ∙ sym (ap (steps_of last) z)) in
-        (
+        same_from t is_none given last 0 t.entries (λ j e at is.
+        let z : 0 + j ≡ j = omega arith in
+        ap (steps_of given) z ∙ picked_other t is_none so_far.given last j e at is ∙ sym (ap (steps_of last) z)) in (
           given,
           λ i e at. by_line i e at (settling_line t e) refl,
           (
@@ -361,8 +358,8 @@ module _ (t : TraceValue) (placed : AreInPlace t) (rising : IsStrictlyIncreasing
           where
             taken_all : (i : ℕ) (e : EntryValue) → slice_get t.entries i ≡ Some e → (s : ℕ) → settling_line t e ≡ Some s → s < so_far.line
             taken_all i e at s is = elim (settles_at_event t placed.commits e (placed_at t placed i e at) s is) [
-                | inl own ↦ let lt = slice_get_within t.entries i e at in let entries = ended.entries in
-                    let below = so_far.up_to.entries_before i e at (omega (arith, lt, entries)) in omega (arith, below, own)
-                | inr (c, inside, there) ↦ let all = ended.commits in
-                    let below = so_far.up_to.commits_before c inside (omega (arith, inside, all)) in omega (arith, below, there)
-              ]
+              | inl own ↦ let lt = slice_get_within t.entries i e at in let entries = ended.entries in
+                  let below = so_far.up_to.entries_before i e at (omega (arith, lt, entries)) in omega (arith, below, own)
+              | inr (c, inside, there) ↦ let all = ended.commits in
+                  let below = so_far.up_to.commits_before c inside (omega (arith, inside, all)) in omega (arith, below, there)
+            ]

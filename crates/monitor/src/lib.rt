@@ -10,9 +10,9 @@
 //!
 //! Callers may rely on this: at each line it tells exactly what `told_on` says of that line, and at the end what
 //! `left_over` says, by evidence that the judge allows for what is judged there, in the order of the entries: nothing
-//! twice, too early or of another line. By the laws of `follow_laws`, what one evidence tells so is true of each longer
-//! log, and all of it together is what the audit finds. A monitor that stands in a log stands in each longer one
-//! ([`laws::stands_on`]), so it goes on as lines come. No program uses it yet.
+//! twice, too early or of another line. By the laws of `follow_laws` what is told so is true of each longer log, and all
+//! that it tells of a trace is what is found on it, each finding once ([`tell_all`]). A monitor that stands in a log
+//! stands in each longer one ([`laws::stands_on`]), so it goes on as lines come. No program uses it yet.
 //!
 //! ```text
 //! while let Some(line) = monitor.take(&trace, &mut judge, &mut told)? { .. }
