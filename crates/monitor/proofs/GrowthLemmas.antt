@@ -1,6 +1,6 @@
 -- Where a monitor stands in a log so far it stands in a longer one.
-use Rattle.std.proofs.Common.{◌≡◌, ℕ, zero, suc, ◌+◌, ◌-◌, ◌<◌, ◌≤◌, inl, inr, List, [], ◌∷◌, ◌++◌, length, map, get_or, max, Option, Some, None, refl, sym, ◌∙◌, ap, subst, arith, length-append}
-use Rattle.std.specs.Prelude.{slice_get, All, Contains}
+use Rattle.std.proofs.Common.{◌≡◌, ℕ, zero, suc, ◌+◌, ◌-◌, ◌<◌, ◌≤◌, inl, inr, List, [], ◌∷◌, ◌++◌, length, map, get_or, Some, sym, ◌∙◌, ap, subst, arith, length-append}
+use Rattle.std.specs.Prelude.{slice_get, All}
 use Rattle.std.specs.List.Sorted.{IsStrictlyIncreasing}
 use Rattle.std.proofs.lemmas.Bool.{cases_lt}
 use Rattle.std.proofs.Math.ListN.{get_or-append}
@@ -10,7 +10,7 @@ use Rattle.std.proofs.lemmas.Option.{slice_get_within, slice_get-get_or, get_or_
 use Rattle.marks.proofs.PlacedLemmas.{slice_get-front}
 use Rattle.version_chains.specs.Commits.{Commit}
 use Rattle.trace_lines.specs.Placed.{AreInPlace}
-use Rattle.trace_lines.specs.Values.{EntryValue, TraceValue, after_last, next_line}
+use Rattle.trace_lines.specs.Values.{EntryValue, TraceValue, after_last}
 use Rattle.windows.specs.Growth.{GoesOn}
 use Rattle.monitor.specs.Standing.{IsReached, Stands, line_of, time_of}
 use Rattle.monitor.specs.declared.monitor.Monitor.{Monitor}

@@ -1,6 +1,6 @@
 -- What a monitor tells of a trace, from its first line to its end.
-use Rattle.std.proofs.Common.{◌≡◌, ℕ, zero, suc, ◌+◌, ◌<◌, ◌≤◌, ◌⊎◌, inl, inr, max, Bool, true, false, cond, List, [], ◌∷◌, ◌++◌, length, Option, Some, None, refl, sym, ◌∙◌, ap, subst, arith, append_assoc, append-nil}
-use Rattle.std.specs.Prelude.{slice_get, is_none, IsPermutation}
+use Rattle.std.proofs.Common.{◌≡◌, ℕ, zero, suc, ◌+◌, ◌<◌, ◌≤◌, inl, inr, max, Bool, true, false, cond, List, [], ◌∷◌, ◌++◌, length, Option, Some, None, refl, sym, ◌∙◌, ap, subst, arith, append_assoc, append-nil}
+use Rattle.std.specs.Prelude.{slice_get, is_none}
 use Rattle.std.specs.List.Sorted.{IsStrictlyIncreasing}
 use Rattle.std.proofs.lemmas.Bool.{cases_lt, eqb-true}
 use Rattle.std.proofs.lemmas.Option.{slice_get_within}
@@ -9,14 +9,13 @@ use Rattle.trace_lines.specs.Values.{EntryValue, TraceValue, entry_lines, next_l
 use Rattle.token_order.proofs.Lines.{line_before}
 use Rattle.evidence_check.specs.Evidences.{steps_of}
 use Rattle.evidence_check.specs.Steps.{StepValue}
-use Rattle.findings.specs.Findings.{findings_of}
 use Rattle.findings.specs.declared.finding.Finding.{Finding}
 use Rattle.follow_laws.specs.Begun.{IsOfBytes}
 use Rattle.follow_laws.specs.Told.{is_at, settling_line, told_before, told_from, told_on}
 use Rattle.follow_laws.proofs.OnceLemmas.{once_to}
-use Rattle.monitor.specs.Standing.{IsAtEnd, IsCommitNext, Takes, TakesCommit, TakesEntry, line_of}
-use Rattle.monitor.specs.Telling.{AreAllowedAt, Tells, TellsLeft, told_of}
-use Rattle.monitor.specs.Whole.{AreAllowed, TellsAll}
+use Rattle.monitor.specs.Standing.{IsAtEnd, IsCommitNext, Takes, line_of}
+use Rattle.monitor.specs.Telling.{Tells, TellsLeft, told_of}
+use Rattle.monitor.specs.Whole.{TellsAll}
 use Rattle.monitor.specs.declared.monitor.Monitor.{Monitor}
 use Rattle.monitor.proofs.CommitLemmas.{at_itself, not_at, line_earlier, line_later, lines_rise, settles_at_event}
 use Rattle.monitor.proofs.StandingLemmas.{placed_at, silent_off}

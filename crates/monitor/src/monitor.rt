@@ -1,10 +1,7 @@
 //! What is told of a log, line by line.
 
-ghost use Rattle.std.specs.Prelude.{◌≡◌, ◌<◌, ◌≤◌, ◌+◌, ◌++◌, ◌^◌, ℕ, true, false, length, slice_get, is_none, [], ◌∷◌, None, Some, IfOk, IfSome, OnOk};
-ghost use Rattle.trace_lines.specs.EntryViews.{entry_value};
+ghost use Rattle.std.specs.Prelude.{◌≡◌, ◌<◌, ◌≤◌, ◌+◌, ◌^◌, true, false, length, slice_get, is_none, [], ◌∷◌, None, Some, IfOk, IfSome, OnOk};
 ghost use Rattle.trace_lines.specs.Values.{EntryValue, TraceValue};
-ghost use Rattle.evidence_check.specs.Judged.{judged};
-ghost use Rattle.evidence_check.specs.Steps.{StepValue};
 ghost use Rattle.monitor.specs.Standing.{AreToBeTold, IsAtEnd, IsCommitNext, IsEntryNext, IsReached, Stands, Takes, TakesCommit, TakesEntry, line_of, time_of};
 ghost use Rattle.follow_laws.specs.Told.{is_at};
 ghost use Rattle.monitor.specs.Telling.{IsJudgedIf, Tells, TellsLeft, TellsOf, TellsOfEach, if_names, moment_of, told_at_commit, told_at_end, told_at_once};

@@ -1,6 +1,6 @@
 //! Entries that wait for a commit at or above their snapshots.
 
-ghost use Rattle.std.specs.Prelude.{◌≡◌, IfOk, List, ◌≤◌};
+ghost use Rattle.std.specs.Prelude.{IfOk, ◌≤◌};
 ghost use Rattle.monitor.specs.Waiting.{AreDue, AreLeft, IsPopped};
 
 use std::alloc::{AllocError, Global};

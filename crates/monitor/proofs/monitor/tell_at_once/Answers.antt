@@ -1,10 +1,8 @@
-use Rattle.std.proofs.Common.{◌≡◌, ℕ, List, ◌++◌, Option, sym, ◌∙◌, ap}
+use Rattle.std.proofs.Common.{ℕ, List, ◌++◌, Option, sym, ◌∙◌, ap}
 use Rattle.std.proofs.lemmas.Option.{same_Some}
 use Rattle.std.proofs.lemmas.Result.{on_ok_weaker}
-use Rattle.trace_lines.specs.EntryViews.{entry_value}
 use Rattle.trace_lines.specs.Values.{EntryValue}
 use Rattle.findings.specs.Findings.{found_where, on_line}
-use Rattle.findings.specs.declared.finding.Finding.{Finding}
 use Rattle.findings.specs.declared.finding.What.{What}
 use Rattle.monitor.specs.Telling.{told_at_once}
 use Rattle.monitor.proofs.CommitLemmas.{settles_at_once, settles_later}

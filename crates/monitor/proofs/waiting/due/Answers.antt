@@ -1,13 +1,11 @@
-use Rattle.std.proofs.Common.{◌≡◌, ℕ, ◌≤◌, ◌<◌, ◌⊎◌, inl, inr, List, ◌∷◌, refl, sym, ◌∙◌, subst, arith, nat_eq}
+use Rattle.std.proofs.Common.{◌≡◌, ℕ, ◌≤◌, inl, inr, List, ◌∷◌, refl, sym, subst, arith}
 use Rattle.std.specs.Prelude.{Contains}
 use Rattle.std.specs.BTreeSet.{insert_key}
 use Rattle.std.specs.Ordering.{nat_cmp}
 use Rattle.std.proofs.lemmas.Bool.{cases_lt}
 use Rattle.std.proofs.lemmas.Map.Keys.{IsStrictlyIncreasing-from_sorted}
 use Rattle.std.proofs.lemmas.Map.Lookups.{exact_unsigned}
-use Rattle.monitor.specs.Waiting.{IsAwaited, IsBetween}
 use Rattle.monitor.proofs.WaitingLemmas.{first_there, later_there, first_or_later, none_there, inserted_there, inserted_kept, inserted_only}
-use Rattle.monitor.proofs.waiting.due.Invariants.{AreFirst, AreLetGo}
 use Rattle.monitor.proofs.waiting.due.Goals as goal
 
 pub loop-i-init : goal.loop-i-init

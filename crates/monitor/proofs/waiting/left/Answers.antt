@@ -1,4 +1,4 @@
-use Rattle.std.proofs.Common.{◌≡◌, ℕ, inl, inr, List, [], ◌∷◌, sym, ◌∙◌, ap, subst, arith}
+use Rattle.std.proofs.Common.{◌≡◌, ℕ, inl, inr, List, ◌∷◌, sym, subst}
 use Rattle.std.specs.Prelude.{Contains}
 use Rattle.std.specs.BTreeSet.{insert_key}
 use Rattle.std.specs.Ordering.{nat_cmp}
@@ -6,7 +6,6 @@ use Rattle.std.proofs.lemmas.Bool.{true≢false}
 use Rattle.std.proofs.lemmas.Map.Keys.{IsStrictlyIncreasing-from_sorted}
 use Rattle.std.proofs.lemmas.Map.Lookups.{exact_unsigned}
 use Rattle.monitor.proofs.WaitingLemmas.{first_there, later_there, first_or_later, none_there, none_left, inserted_there, inserted_kept, inserted_only}
-use Rattle.monitor.proofs.waiting.left.Invariants.{AreSoFar}
 use Rattle.monitor.proofs.waiting.left.Goals as goal
 
 pub loop-i-init : goal.loop-i-init

@@ -1,4 +1,4 @@
-use Rattle.std.proofs.Common.{◌≡◌, ℕ, ◌+◌, ◌-◌, length}
+use Rattle.std.proofs.Common.{◌≡◌, ◌+◌, ◌-◌, length}
 use Rattle.monitor.specs.Standing.{Stands}
 use Rattle.monitor.proofs.RunLemmas.{IsTold}
 use Rattle.monitor.proofs.whole.tell_all.Given as goal

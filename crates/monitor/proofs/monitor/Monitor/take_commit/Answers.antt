@@ -1,8 +1,8 @@
-use Rattle.std.proofs.Common.{◌≡◌, ℕ, List, map, get_or, refl, sym, ◌∙◌, ap, subst, arith}
+use Rattle.std.proofs.Common.{◌≡◌, ℕ, List, map, get_or, refl, ◌∙◌, ap, subst, arith}
 use Rattle.std.proofs.lemmas.Option.{get_or_from_slice_get}
 use Rattle.version_chains.specs.Commits.{Commit}
 use Rattle.follow_laws.specs.Told.{is_at}
-use Rattle.monitor.specs.Standing.{StandBefore, line_of, time_of}
+use Rattle.monitor.specs.Standing.{line_of}
 use Rattle.monitor.specs.Telling.{Tells}
 use Rattle.monitor.specs.Waiting.{AreDue}
 use Rattle.monitor.proofs.StandingLemmas.{due_before, silent_undue, stands_behind_commit}

@@ -1,11 +1,9 @@
-use Rattle.std.proofs.Common.{◌≡◌, ℕ, ◌≤◌, ◌⊎◌, inl, inr, true, false, List, refl, sym, ◌∙◌, ap, subst, arith}
+use Rattle.std.proofs.Common.{ℕ, inl, inr, true, false, List, refl, sym, ◌∙◌, ap, subst}
 use Rattle.std.specs.Prelude.{Contains}
-use Rattle.std.proofs.lemmas.Bool.{true≢false}
 use Rattle.std.proofs.lemmas.Option.{same_Some}
 use Rattle.trace_lines.specs.EntryViews.{entry_value}
-use Rattle.trace_lines.specs.Values.{EntryValue}
 use Rattle.follow_laws.specs.Told.{is_at}
-use Rattle.monitor.specs.Standing.{IsEntryNext, IsReached, Stands}
+use Rattle.monitor.specs.Standing.{IsEntryNext}
 use Rattle.monitor.specs.declared.monitor.Monitor.{Monitor}
 use Rattle.monitor.proofs.StandingLemmas.{silent_beside, stands_behind_entry}
 use Rattle.monitor.proofs.TellingLemmas.{told_one}
