@@ -28,6 +28,7 @@ use crate::entries::{Entries, OwnedEntry};
 use crate::entry::{Entry, EntryKind};
 use crate::line::{Line, Said, TraceLine, parse_line};
 use crate::owned::OwnedCommit;
+use crate::paused::PausedTrace;
 use crate::trace::Trace;
 use crate::versions::{Versions, version_of};
 use edge_checks::{EdgeIndex, Sample, is_of_relation};
@@ -43,16 +44,16 @@ use version_chains::{AppendFault, Chains};
 
 /// What the lines so far make of a trace, with what it takes to read further ones.
 pub struct TraceBuilder {
-    alloc: Global,
-    rules: Rules,
-    chains: Chains,
+    pub(crate) alloc: Global,
+    pub(crate) rules: Rules,
+    pub(crate) chains: Chains,
     // of the tuples ever added
-    sample: Sample,
+    pub(crate) sample: Sample,
     // of the rules and the sample
-    index: EdgeIndex,
-    commit_lines: Vec<u64>,
-    recorded: Entries,
-    versions: Versions,
+    pub(crate) index: EdgeIndex,
+    pub(crate) commit_lines: Vec<u64>,
+    pub(crate) recorded: Entries,
+    pub(crate) versions: Versions,
 }
 
 impl Model for TraceBuilder {
@@ -188,6 +189,35 @@ impl TraceBuilder {
             usersets,
             commit_lines,
             recorded,
+        }
+    }
+
+    /// The trace of these lines, to which more may come.
+    pub fn pause(self) -> PausedTrace
+        ensures { result ≡ self }
+    {
+        let TraceBuilder {
+            alloc,
+            rules,
+            chains,
+            sample,
+            index,
+            commit_lines,
+            recorded,
+            versions,
+        } = self;
+        PausedTrace {
+            alloc,
+            trace: Trace {
+                rules,
+                chains,
+                usersets: UsersetIndex::new(alloc),
+                commit_lines,
+                recorded,
+            },
+            sample,
+            index,
+            versions,
         }
     }
 

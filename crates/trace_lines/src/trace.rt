@@ -1,13 +1,14 @@
 //! Traces.
 
-ghost use Rattle.std.specs.Prelude.{◌≡◌, ◌<◌, ◌≤◌, ℕ, Some, IfSome, All, length, slice_get, take, drop};
+ghost use Rattle.std.specs.Prelude.{◌≡◌, ◌<◌, ◌≤◌, ◌-◌, ◌^◌, ℕ, Some, IfSome, All, length, slice_get, take, drop};
 ghost use Rattle.std.specs.List.Sorted.{IsStrictlyIncreasing};
 ghost use Rattle.namespaces.specs.Lookup.{rule_at};
 ghost use Rattle.version_chains.specs.Commits.{store_at};
 ghost use Rattle.strata.specs.Strata.{HasValidStrata};
 ghost use Rattle.trace_lines.specs.Timelines.{timeline_of};
 ghost use Rattle.trace_lines.specs.EntryViews.{entry_value};
-ghost use Rattle.trace_lines.specs.Kept.{IsPlaced};
+ghost use Rattle.trace_lines.specs.Kept.{IsKept, IsPlaced};
+ghost use Rattle.trace_lines.specs.Recorded.{contents, shown};
 ghost use Rattle.trace_lines.specs.Values.{entry_lines};
 ghost use Rattle.trace_lines.specs.Versions.{content_of, AreIssuedOnce};
 
@@ -30,7 +31,7 @@ pub struct Trace {
 }
 
 impl Model for Trace {
-    ghost use Rattle.std.specs.Prelude.{ℕ};
+    ghost use Rattle.std.specs.Prelude.{◌≡◌, ◌-◌, ◌^◌, ℕ};
     ghost use Rattle.trace_lines.specs.Values.{TraceValue};
     ghost use Rattle.trace_lines.specs.TraceCode.{trace_code};
 
@@ -56,7 +57,7 @@ impl Model for Trace {
     ghost invariant = { λ t. IsKept t.chains.commits t.commit_lines.items (shown t.recorded) (contents t.recorded)
         × AreIssuedOnce (shown t.recorded)
         × ((at : ℕ) → HasValidStrata (rule_at t.rules at) (store_at t.chains.commits at))
-        × IsUsersetIndex t.rules t.chains.commits t.usersets };
+        × IsUsersetIndex t.rules t.chains.commits t.usersets × (t.chains.limit ≡ 2 ^ 32 - 1) };
 }
 
 // Written out, since one that is derived is a part of each function that lets a trace go, with all its parts.
@@ -141,6 +142,25 @@ impl Trace {
         ensures placed { All (IsPlaced self.now.commit_lines) self.now.entries }
     {
         &self.recorded
+    }
+
+    /// What it was made of, but for the index.
+    pub(crate) fn into_parts(self) -> (Rules, Chains, Vec<u64>, Entries)
+        ensures rules { result.0 ≡ self.declarations }
+        ensures chains { result.1 ≡ record { commits = self.commits; limit = 2 ^ 32 - 1 } }
+        ensures lines { result.2.items ≡ self.commit_lines }
+        ensures entries { shown result.3 ≡ self.entries }
+        ensures kept { IsKept self.commits self.commit_lines self.entries (contents result.3) }
+    {
+        let Trace {
+            rules,
+            chains,
+            usersets,
+            commit_lines,
+            recorded,
+        } = self;
+        drop(usersets);
+        (rules, chains, commit_lines, recorded)
     }
 
     /// The line of commit `k`.

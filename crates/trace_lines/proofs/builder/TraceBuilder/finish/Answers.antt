@@ -9,4 +9,5 @@ invariant_of-result c = (
   issued_once c.self.inside.versions (shown c.self.inside.recorded) c.self.invariant.4,
   valid_strata c.self.inside.rules c.self.inside.chains.commits c.self.inside.sample c.self.invariant.2,
   c.usersets_of-usersets.ensures,
+  c.self.invariant.0,
 )
