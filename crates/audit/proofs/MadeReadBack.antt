@@ -6,7 +6,8 @@ use Rattle.std.proofs.Math.Seq.{get_or-append_seam}
 use Rattle.std.proofs.lemmas.Bool.{le-ltb, ne_eqb}
 use Rattle.json_lines.specs.Json.{taken_line}
 use Rattle.json_lines.specs.Reading.{parts, read_from, read_all}
-use Rattle.json_lines.proofs.Folds.{GoesFrom, goes_first, goes_on, within_from}
+use Rattle.json_lines.specs.SoFar.{GoesFrom}
+use Rattle.json_lines.proofs.Folds.{goes_first, goes_on, within_from}
 use Rattle.trace_lines.specs.Values.{TraceValue, EntryValue, entry_lines}
 use Rattle.evidence_check.specs.Reading.{fact_count, place_of, put_steps, record_line, no_records, faulted, evidence_of}
 use Rattle.evidence_check.specs.Records.{Records}

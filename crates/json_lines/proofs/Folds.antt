@@ -9,6 +9,7 @@ use Rattle.refusals.specs.Refusals.{◌>>=◌}
 use Rattle.devices.specs.Given.{OfBytes, OfInput}
 use Rattle.json_lines.specs.Lines.{lacks, first_line, after_line, has_newline, line_ending}
 use Rattle.json_lines.specs.Reading.{at_line, passes_limit, parts, read_from, read_all, Fails, HasLine, Refuses}
+use Rattle.json_lines.specs.SoFar.{GoesFrom}
 use Rattle.json_lines.specs.declared.lines.InputFault.{InputFault}
 use Rattle.json_lines.specs.declared.lines.InputFault.TheVariants.{TooLong, Read, OutOfMemory}
 use Rattle.json_lines.specs.declared.reading.Stop.{Stop}
@@ -66,12 +67,7 @@ came_in_all given old new used room max few before within le h =
     (before ++ h.0, h.1 ∙ append_assoc (given old) before h.0, omega (arith, length-append before h.0, h.2, within, le))
 
 module _ {S C : Type 0} (taken : ℕ → S → List ℕ → Result S C) (start : S) where
-  -- the bytes so far say nothing more than the state does
-  pub record GoesFrom (n room : ℕ) (s : S) (used : List ℕ) : Type 0 where
-    pub same : (whole : Bool) (ys : List ℕ) → read_from taken whole 1 (2 ^ 30) start (parts (used ++ ys)) ≡ read_from taken whole n room s (parts ys)
-    pub counted : (ys : List ℕ) → length (parts (used ++ ys)) + 1 ≡ n + length (parts ys)
-
-  pub goes_first : GoesFrom 1 (2 ^ 30) start []
+  pub goes_first : GoesFrom taken start 1 (2 ^ 30) start []
   goes_first = record { same = λ whole ys. refl; counted = λ ys. omega arith }
 
   abbrev stopped : ℕ → Stop C → Result S (LineFault C)
@@ -87,7 +83,7 @@ module _ {S C : Type 0} (taken : ℕ → S → List ℕ → Result S C) (start :
       → read_from taken whole n room s (parts ((line ++ line_ending more) ++ ys)) ≡ told whole n room s line more ys
   reads_line whole n room s line more ys h e = rw (parts_of_line line more ys h e, none_later more ys, not_not more) refl
 
-  says : (whole : Bool) (n room : ℕ) (s : S) (used line : List ℕ) (more : Bool) (ys : List ℕ) → GoesFrom n room s used → lacks line ≡ true → (more ≡ false → ys ≡ [])
+  says : (whole : Bool) (n room : ℕ) (s : S) (used line : List ℕ) (more : Bool) (ys : List ℕ) → GoesFrom taken start n room s used → lacks line ≡ true → (more ≡ false → ys ≡ [])
       → read_all taken whole start (used ++ ((line ++ line_ending more) ++ ys)) ≡ told whole n room s line more ys
   unfolding read_all
   says whole n room s used line more ys from h e = from.same whole ((line ++ line_ending more) ++ ys) ∙ reads_line whole n room s line more ys h e
@@ -97,8 +93,8 @@ module _ {S C : Type 0} (taken : ℕ → S → List ℕ → Result S C) (start :
   and_false false = refl
 
   -- one line more was read
-  pub goes_on : (n room : ℕ) (s : S) (used line : List ℕ) (now : S) → GoesFrom n room s used → lacks line ≡ true → Within room line true → taken n s line ≡ Ok now
-      → GoesFrom (n + 1) (room - (length line + 1)) now (used ++ (line ++ line_ending true))
+  pub goes_on : (n room : ℕ) (s : S) (used line : List ℕ) (now : S) → GoesFrom taken start n room s used → lacks line ≡ true → Within room line true → taken n s line ≡ Ok now
+      → GoesFrom taken start (n + 1) (room - (length line + 1)) now (used ++ (line ++ line_ending true))
   goes_on n room s used line now from h w e = record {
     same = λ whole ys.
         ap (λ (l : List ℕ). read_from taken whole 1 (2 ^ 30) start (parts l)) (append_assoc used (line ++ line_ending true) ys)
@@ -112,13 +108,13 @@ module _ {S C : Type 0} (taken : ℕ → S → List ℕ → Result S C) (start :
   }
 
   -- lines count from 1
-  pub from_one : (n room : ℕ) (s : S) (used : List ℕ) → GoesFrom n room s used → 1 ≤ n
+  pub from_one : (n room : ℕ) (s : S) (used : List ℕ) → GoesFrom taken start n room s used → 1 ≤ n
   from_one n room s used from =
       let none : length (parts []) ≡ 1 = refl in
       let some = length-slice_split (λ b. eqb b 10) (used ++ []) in omega (arith, from.counted [], none, some)
 
   -- the next line is one of those that came
-  pub line_came : {R : Type 0} (given : R → List ℕ) (old new : R) (n room : ℕ) (s : S) (used bytes : List ℕ) → GoesFrom n room s used → given new ≡ (given old ++ used) ++ bytes
+  pub line_came : {R : Type 0} (given : R → List ℕ) (old new : R) (n room : ℕ) (s : S) (used bytes : List ℕ) → GoesFrom taken start n room s used → given new ≡ (given old ++ used) ++ bytes
       → OfBytes given old new (λ came. HasLine came n)
   line_came given old new n room s used bytes from is = (
     used ++ bytes,
@@ -131,7 +127,7 @@ module _ {S C : Type 0} (taken : ℕ → S → List ℕ → Result S C) (start :
 
   module _ {R : Type 0} (given : R → List ℕ) (ends : R → ℕ) (old new : R) where
     -- what every input says that the reader may have: it goes on with this line
-    along : (P : Result S (LineFault C) → Type 0) (n room : ℕ) (s : S) (used line : List ℕ) (more : Bool) (left : List ℕ) → GoesFrom n room s used
+    along : (P : Result S (LineFault C) → Type 0) (n room : ℕ) (s : S) (used line : List ℕ) (more : Bool) (left : List ℕ) → GoesFrom taken start n room s used
         → given new ≡ (given old ++ used) ++ ((line ++ line_ending more) ++ left) → lacks line ≡ true → (more ≡ false → (left ≡ []) × (ends old < ends new))
         → ((ys : List ℕ) → P (told true n room s line more ys)) → OfInput given ends old new (λ input. P (read_all taken true start input))
     along P n room s used line more left from is h last holds = (
@@ -143,14 +139,14 @@ module _ {S C : Type 0} (taken : ℕ → S → List ℕ → Result S C) (start :
     )
 
     -- the newline is past the end of what may come
-    pub over_ends : (n room : ℕ) (s : S) (used line : List ℕ) (more : Bool) (left : List ℕ) → GoesFrom n room s used
+    pub over_ends : (n room : ℕ) (s : S) (used line : List ℕ) (more : Bool) (left : List ℕ) → GoesFrom taken start n room s used
         → given new ≡ (given old ++ used) ++ ((line ++ line_ending more) ++ left) → lacks line ≡ true → (more ≡ false → (left ≡ []) × (ends old < ends new))
         → (more && eqb (length line) room) ≡ true → OfInput given ends old new (λ input. read_all taken true start input ≡ stopped n (Input TooLong))
     over_ends n room s used line more left from is h last e =
         along (λ r. r ≡ stopped n (Input TooLong)) n room s used line more left from is h last (λ ys. rw (over room line more e) refl)
 
     -- the step over the line failed
-    pub step_cut : (n room : ℕ) (s : S) (used line : List ℕ) (more : Bool) (left : List ℕ) (stop : Stop C) → GoesFrom n room s used
+    pub step_cut : (n room : ℕ) (s : S) (used line : List ℕ) (more : Bool) (left : List ℕ) (stop : Stop C) → GoesFrom taken start n room s used
         → given new ≡ (given old ++ used) ++ ((line ++ line_ending more) ++ left) → lacks line ≡ true → (more ≡ false → (left ≡ []) × (ends old < ends new))
         → Within room line more → Refuses (taken n s line) stop → OfInput given ends old new (λ input. Fails stop (record { line = n; stop = stop }) (read_all taken true start input))
     step_cut n room s used line more left (Line cause) from is h last w e =
@@ -160,7 +156,7 @@ module _ {S C : Type 0} (taken : ℕ → S → List ℕ → Result S C) (start :
     step_cut n room s used line more left (Input TooLong) from is h last w e = absurd e
 
     -- it was the last line
-    pub last_ends : (n room : ℕ) (s : S) (used line left : List ℕ) (now : S) → GoesFrom n room s used
+    pub last_ends : (n room : ℕ) (s : S) (used line left : List ℕ) (now : S) → GoesFrom taken start n room s used
         → given new ≡ (given old ++ used) ++ ((line ++ line_ending false) ++ left) → lacks line ≡ true → left ≡ [] → ends old < ends new
         → Within room line false → taken n s line ≡ Ok now → OfInput given ends old new (λ input. read_all taken true start input ≡ Ok now)
     last_ends n room s used line left now from is h none end w e =
@@ -170,7 +166,7 @@ module _ {S C : Type 0} (taken : ℕ → S → List ℕ → Result S C) (start :
     open_ends : (used bytes : List ℕ) → given new ≡ (given old ++ used) ++ bytes → OfInput given ends old new (λ input. ⊤)
     open_ends used bytes is = (used ++ bytes, is ∙ append_assoc (given old) used bytes, λ rest ended. tt)
 
-    long_line : (n room : ℕ) (s : S) (used line rest : List ℕ) → GoesFrom n room s used → lacks line ≡ true → min room (2 ^ 20) < length line
+    long_line : (n room : ℕ) (s : S) (used line rest : List ℕ) → GoesFrom taken start n room s used → lacks line ≡ true → min room (2 ^ 20) < length line
         → read_all taken true start (used ++ (line ++ rest)) ≡ stopped n (Input TooLong)
     long_line n room s used line rest from h lt =
         let whole = line ++ first_line rest in
@@ -181,7 +177,7 @@ module _ {S C : Type 0} (taken : ℕ → S → List ℕ → Result S C) (start :
         ∙ rw long refl
 
     -- no line came
-    pub cut_ends : (n room : ℕ) (s : S) (used bytes : List ℕ) (e : InputFault) → GoesFrom n room s used → given new ≡ (given old ++ used) ++ bytes
+    pub cut_ends : (n room : ℕ) (s : S) (used bytes : List ℕ) (e : InputFault) → GoesFrom taken start n room s used → given new ≡ (given old ++ used) ++ bytes
         → (e ≡ TooLong → (line : List ℕ) × (rest : List ℕ) × (given new ≡ (given old ++ used) ++ (line ++ rest)) × (lacks line ≡ true) × (min room (2 ^ 20) < length line))
         → OfInput given ends old new (λ input. Fails (Input e) (record { line = n; stop = Input e }) (read_all taken true start input))
     cut_ends n room s used bytes Read from is long = open_ends used bytes is
@@ -194,7 +190,7 @@ module _ {S C : Type 0} (taken : ℕ → S → List ℕ → Result S C) (start :
         )
 
     -- the reader failed within a line
-    pub read_fails : (n room : ℕ) (s : S) (used line : List ℕ) → GoesFrom n room s used → given new ≡ (given old ++ used) ++ (line ++ []) → lacks line ≡ true → length line ≤ min room (2 ^ 20)
+    pub read_fails : (n room : ℕ) (s : S) (used line : List ℕ) → GoesFrom taken start n room s used → given new ≡ (given old ++ used) ++ (line ++ []) → lacks line ≡ true → length line ≤ min room (2 ^ 20)
         → OfBytes given old new (λ came. read_all taken false start came ≡ stopped n (Input Read))
     read_fails n room s used line from is h le = (
       used ++ (line ++ []),

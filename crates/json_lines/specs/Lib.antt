@@ -4,3 +4,4 @@ pub mod Joined
 pub mod Json
 pub mod Lines
 pub mod Reading
+pub mod SoFar

@@ -34,11 +34,13 @@ pub mod fields;
 mod joined;
 mod line;
 mod lines;
+mod next;
 mod reading;
 mod taking;
 
 pub use joined::{Front, Rest, read_front};
 pub use line::read_value;
-pub use lines::{CHUNK, InputFault, line_end};
+pub use lines::{CHUNK, InputFault, Lines, line_end};
+pub use next::LineReader;
 pub use reading::{LineFault, MAX_INPUT, MAX_LINE, Stop, read_lines};
 pub use taking::{LineCause, TakeJson, is_blank};

@@ -72,6 +72,14 @@ impl Lines {
         })
     }
 
+    /// Whether a whole line is there, with its newline.
+    pub fn holds_line(&self) -> bool
+        ensures { result ≡ has_newline self.now }
+    {
+        let pending = self.pending();
+        line_end(pending) < pending.len()
+    }
+
     fn pending(&self) -> &[u8]
         ensures bytes { result.now ≡ self.now }
         ensures few { length self.now ≤ CHUNK }

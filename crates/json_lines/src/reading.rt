@@ -5,8 +5,9 @@ ghost use Rattle.json_lines.specs.InputRead.{LinesRead};
 ghost use Rattle.json_lines.specs.Json.{taken_line};
 ghost use Rattle.json_lines.specs.Reading.{cause_of, IsOfSomeLine};
 
-use crate::lines::{CHUNK, InputFault, Lines};
-use crate::taking::{LineCause, TakeJson, take_line};
+use crate::lines::{CHUNK, InputFault};
+use crate::next::LineReader;
+use crate::taking::{LineCause, TakeJson};
 use devices::Source;
 use std::alloc::Global;
 use std::fmt::Display;
@@ -72,39 +73,19 @@ pub fn read_lines<R: Source, T: TakeJson>(
     // A cause is what some line gave.
     ensures told { IfErr result (IsOfSomeLine (taken_line T.Cause.not_json T.taken)) }
 {
-    let mut lines = match Lines::new(alloc) {
+    let mut lines = match LineReader::new(alloc) {
         Ok(lines) => lines,
         Err(_) => return Err(LineFault {
             line: 1,
             stop: Stop::Input(InputFault::OutOfMemory),
         }),
     };
-    let mut line = Vec::new(alloc);
-    let mut room = MAX_INPUT;
-    for number in 1..u64::MAX {
-        let more = match lines.next(reader, room.min(MAX_LINE), &mut line) {
-            Ok(more) => more,
-            Err(fault) => return Err(LineFault {
-                line: number,
-                stop: Stop::Input(fault),
-            }),
-        };
-        if is_over(more, line.len(), room) {
-            return Err(LineFault {
-                line: number,
-                stop: Stop::Input(InputFault::TooLong),
-            });
+    // bounded by the room for an input, of which each line takes some
+    loop {
+        match lines.take_next(reader, value) {
+            Ok(true) => {}
+            Ok(false) => return Ok(()),
+            Err(fault) => return Err(fault),
         }
-        if let Err(stop) = take_line(value, number, &line) {
-            return Err(LineFault { line: number, stop });
-        }
-        if !more {
-            return Ok(());
-        }
-        room -= line.len() + 1;
     }
-    Err(LineFault {
-        line: u64::MAX,
-        stop: Stop::Input(InputFault::TooLong),
-    })
 }

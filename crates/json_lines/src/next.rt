@@ -1,0 +1,102 @@
+//! The lines of a reader, one by one.
+
+ghost use Rattle.std.specs.Prelude.{◌≡◌, ◌≢◌, ◌+◌, ◌≤◌, ◌<◌, ◌^◌, [], Ok, true, IfOk, IfErr, OnOk};
+ghost use Rattle.json_lines.specs.InputRead.{LinesRead};
+ghost use Rattle.json_lines.specs.Json.{taken_line};
+ghost use Rattle.json_lines.specs.Lines.{has_newline};
+ghost use Rattle.json_lines.specs.Reading.{IsOfSomeLine};
+ghost use Rattle.json_lines.specs.SoFar.{IsReadSoFar};
+ghost use Rattle.json_lines.specs.declared.reading.TheConstants.{MAX_INPUT};
+
+use crate::lines::{InputFault, Lines};
+use crate::reading::{LineFault, MAX_INPUT, MAX_LINE, Stop, is_over};
+use crate::taking::{TakeJson, take_line};
+use devices::Source;
+use std::alloc::{AllocError, Global};
+
+/// What was read of an input and not yet taken, and how far the input's lines were taken.
+#[derive(Drop)]
+pub struct LineReader {
+    pub lines: Lines,
+    /// The last line that was taken.
+    pub line: Vec<u8>,
+    /// The number of the next line, from 1.
+    pub number: u64,
+    /// How many bytes may still come, with those at hand.
+    pub room: usize,
+}
+
+impl LineReader {
+    /// Of an input of which nothing was read.
+    pub fn new(alloc: Global) -> Result<LineReader, AllocError>
+        ensures { IfOk result (λ r. (r.lines ≡ []) × (r.number ≡ 1) × (r.room ≡ MAX_INPUT)) }
+    {
+        Ok(LineReader {
+            lines: Lines::new(alloc)?,
+            line: Vec::new(alloc),
+            number: 1,
+            room: MAX_INPUT,
+        })
+    }
+
+    /// Whether a whole line is at hand, so that the reader is not asked for the next one.
+    pub fn holds_line(&self) -> bool
+        ensures { result ≡ has_newline self.now.lines }
+    {
+        self.lines.holds_line()
+    }
+
+    /// Hands the next line to `value`, and says whether a further one follows. The reader is asked for more only where
+    /// no whole line is at hand. It is refused as [`read_lines`](crate::read_lines) is.
+    pub fn take_next<R: Source, T: TakeJson>(
+        &mut self,
+        reader: &mut R,
+        value: &mut T,
+    ) -> Result<bool, LineFault<T::Cause>>
+        requires next { T.next value.old ≤ self.old.number }
+        requires room { self.old.number + self.old.room ≤ MAX_INPUT + 1 }
+        // Where a line follows, all before it were taken.
+        ensures goes { result ≡ Ok true → (first : R) (start : T)
+            → IsReadSoFar R.given R.ends R.failures R.remaining (taken_line T.Cause.not_json T.taken)
+            first reader.old start value.old self.old
+            → IsReadSoFar R.given R.ends R.failures R.remaining (taken_line T.Cause.not_json T.taken)
+            first reader.new start value.new self.new }
+        ensures next { result ≡ Ok true → T.next value.new ≤ self.new.number }
+        ensures room { result ≡ Ok true → (self.new.number + self.new.room ≤ MAX_INPUT + 1)
+            × (self.new.room < self.old.room) }
+        // Else the reading has ended, or a line is refused.
+        ensures read { result ≢ Ok true → (first : R) (start : T)
+            → IsReadSoFar R.given R.ends R.failures R.remaining (taken_line T.Cause.not_json T.taken)
+            first reader.old start value.old self.old
+            → LinesRead R.given R.ends R.failures R.remaining (taken_line T.Cause.not_json T.taken)
+            first reader.new start value.new result }
+        // A cause is what some line gave.
+        ensures told { IfErr result (IsOfSomeLine (taken_line T.Cause.not_json T.taken)) }
+    {
+        let number = self.number;
+        let more = match self
+            .lines
+            .next(reader, self.room.min(MAX_LINE), &mut self.line)
+        {
+            Ok(more) => more,
+            Err(fault) => return Err(LineFault {
+                line: number,
+                stop: Stop::Input(fault),
+            }),
+        };
+        if is_over(more, self.line.len(), self.room) {
+            return Err(LineFault {
+                line: number,
+                stop: Stop::Input(InputFault::TooLong),
+            });
+        }
+        if let Err(stop) = take_line(value, number, &self.line) {
+            return Err(LineFault { line: number, stop });
+        }
+        if more {
+            self.room -= self.line.len() + 1;
+            self.number += 1;
+        }
+        Ok(more)
+    }
+}
