@@ -1,5 +1,5 @@
 -- How far the lines of a reader were read.
-use Rattle.std.specs.Prelude.{◌≡◌, ℕ, ◌+◌, ◌≤◌, ◌^◌, Bool, List, ◌++◌, length, Option, Result}
+use Rattle.std.specs.Prelude.{◌≡◌, ℕ, ◌+◌, ◌<◌, ◌≤◌, ◌^◌, Bool, List, [], ◌∷◌, ◌++◌, length, Option, Result}
 use Rattle.devices.specs.Given.{AreNext}
 use Rattle.json_lines.specs.Reading.{parts, read_from}
 use Rattle.json_lines.specs.declared.next.LineReader.{LineReader}
@@ -16,6 +16,7 @@ module _ {S C : Type 0} (taken : ℕ → S → List ℕ → Result S C) (start :
 pub record IsReadSoFar {R S C : Type 0} (given : R → List ℕ) (ends failures : R → ℕ) (remaining : R → Option (List ℕ))
     (taken : ℕ → S → List ℕ → Result S C) (first now : R) (start s : S) (r : LineReader) : Type 0 where
   pub used : List ℕ
+  pub whole : 1 < r.number → (lines : List ℕ) × (used ≡ lines ++ 10 ∷ [])
   pub gave : given now ≡ (given first ++ used) ++ r.lines
   pub fits : length used + r.room ≤ 2 ^ 30
   pub follows : GoesFrom taken start r.number r.room s used

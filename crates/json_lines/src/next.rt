@@ -61,7 +61,8 @@ impl LineReader {
             first reader.old start value.old self.old
             → IsReadSoFar R.given R.ends R.failures R.remaining (taken_line T.Cause.not_json T.taken)
             first reader.new start value.new self.new }
-        ensures next { result ≡ Ok true → T.next value.new ≤ self.new.number }
+        ensures next { result ≡ Ok true → (self.new.number ≡ self.old.number + 1)
+            × (T.next value.new ≤ self.new.number) }
         ensures room { result ≡ Ok true → (self.new.number + self.new.room ≤ MAX_INPUT + 1)
             × (self.new.room < self.old.room) }
         // Else the reading has ended, or a line is refused.

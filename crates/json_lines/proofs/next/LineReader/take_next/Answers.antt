@@ -116,6 +116,7 @@ returns-clause-goes g c more first start so_far = elim c.if-more.branch [
       let going = so_far.going in
       rw w.self-is record {
         used = so_far.used ++ (c.next.new.line.items ++ line_ending true);
+        whole = λ _. (so_far.used ++ c.next.new.line.items, sym (append_assoc so_far.used c.next.new.line.items (line_ending true)));
         gave = came ∙ regroup (g.R.Source.given first) so_far.used (c.next.new.line.items ++ line_ending true) c.next.new.self;
         fits = omega (arith, size, ended, now, room, fits);
         follows = rw (← now) on;
