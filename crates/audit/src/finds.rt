@@ -34,14 +34,15 @@ fn key_of(goal: FactRef<'_>, reply: bool) -> u64 {
 /// For each userset and reply what was made for the last entry that has them. Those of one mark share a place. Where
 /// the steps name too many facts together, all is forgotten.
 #[derive(Drop)]
-pub(crate) struct Finds {
+pub struct Finds {
     alloc: Global,
     made: BTreeMap<u64, (usize, Made)>,
     facts: usize,
 }
 
 impl Finds {
-    pub(crate) fn new(alloc: Global) -> Finds {
+    /// Nothing was made.
+    pub fn new(alloc: Global) -> Finds {
         Finds {
             alloc,
             made: BTreeMap::new(alloc),

@@ -45,6 +45,7 @@ mod early;
 mod finder;
 mod finds;
 mod joined;
+mod judging;
 mod made;
 mod made_audit;
 mod plain;
@@ -54,8 +55,10 @@ mod telling;
 mod touches;
 
 pub use early::audit_early;
+pub use finds::Finds;
 pub use findings::{Finding, What, findings_of, report_line, report_of};
 pub use joined::audit_joined;
+pub use judging::MakingJudge;
 pub use made::{make_records, make_records_listing};
 pub use made_audit::audit_made;
 pub use plain::{AuditFault, Verdict, audit_plain, audit_values};

@@ -114,7 +114,7 @@ fn found_making(
 }
 
 /// How evidence that is made for entry `i` judges it, and that.
-fn judgement_made(
+pub(crate) fn judgement_made(
     maker: &mut Maker<'_>,
     i: usize,
     found: Option<evidence_maker::Found<'_>>,

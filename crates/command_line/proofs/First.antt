@@ -120,11 +120,11 @@ walk_part : (w : Text) (rest : List Text) → fault_of program (w ∷ rest) ≡ 
 unfolding walk_fault
 walk_part w rest e = first_empty _ _ (first_empty _ _ e)
 
-abbrev met_from : Bool → Bool → Bool → Bool → Option Text
-met_from audit make history help = option_map (λ (s : Text × List Text). s.0)
-    (if audit then Some (codes "audit", []) else (if make then Some (codes "make", []) else (if history then Some (codes "history", []) else (if help then Some (codes "help", []) else None))))
+abbrev met_from : Bool → Bool → Bool → Bool → Bool → Option Text
+met_from audit make history follow help = option_map (λ (s : Text × List Text). s.0)
+    (if audit then Some (codes "audit", []) else (if make then Some (codes "make", []) else (if history then Some (codes "history", []) else (if follow then Some (codes "follow", []) else (if help then Some (codes "help", []) else None)))))
 
-met_is : (w : Text) → met_by w ≡ met_from (bytes_eq (codes "audit") w || false) (bytes_eq (codes "make") w || false) (bytes_eq (codes "history") w || false) (bytes_eq (codes "help") w || false)
+met_is : (w : Text) → met_by w ≡ met_from (bytes_eq (codes "audit") w || false) (bytes_eq (codes "make") w || false) (bytes_eq (codes "history") w || false) (bytes_eq (codes "follow") w || false) (bytes_eq (codes "help") w || false)
 met_is w = refl
 
 same : (a w : Text) → (bytes_eq a w || false) ≡ true → a ≡ w
@@ -134,14 +134,14 @@ none_some : (o : Option Text) → None ≡ o → is_some o ≡ true → ⊥
 none_some None a b = absurd cc
 none_some (Some x) a b = absurd cc
 
-met_none : (p q r s : Bool) → p ≡ false → q ≡ false → r ≡ false → s ≡ false → met_from p q r s ≡ None
-met_none p q r s a b c d = rw (a, b, c, d) refl
+met_none : (p q r s t : Bool) → p ≡ false → q ≡ false → r ≡ false → s ≡ false → t ≡ false → met_from p q r s t ≡ None
+met_none p q r s t a b c d f = rw (a, b, c, d, f) refl
 
 -- Of words that are taken, a command that was entered is the first word.
 pub named : (words : List Text) (o : Option Text) → fault_of program words ≡ [] → option_map (λ p. p.0) (subcommand_of program words) ≡ o → is_some o ≡ true → slice_get words 0 ≡ o
 unfolding walked
 named [] o e s i = absurd (none_some o s i)
-named (w ∷ rest) o e s i = go (bytes_eq (codes "audit") w || false) (bytes_eq (codes "make") w || false) (bytes_eq (codes "history") w || false) (bytes_eq (codes "help") w || false) refl refl refl refl
+named (w ∷ rest) o e s i = go (bytes_eq (codes "audit") w || false) (bytes_eq (codes "make") w || false) (bytes_eq (codes "history") w || false) (bytes_eq (codes "follow") w || false) (bytes_eq (codes "help") w || false) refl refl refl refl refl
   where
     of_literal : (a : Text) → a ≡ w → option_map (λ p. p.0) (subcommand_of program (a ∷ rest)) ≡ Some a → Some w ≡ o
     of_literal a is entered = ap (λ (x : Text). Some x) (sym is) ∙ (sym entered ∙ (ap (λ (x : Text). option_map (λ p. p.0) (subcommand_of program (x ∷ rest))) is ∙ s))
@@ -149,13 +149,14 @@ named (w ∷ rest) o e s i = go (bytes_eq (codes "audit") w || false) (bytes_eq 
     nothing : (d : Text) → d ≡ w → subcommand_of program (d ∷ rest) ≡ None → Some w ≡ o
     nothing d is none = absurd (none_some o (sym (ap (option_map (λ p. p.0)) none) ∙ (ap (λ (x : Text). option_map (λ p. p.0) (subcommand_of program (x ∷ rest))) is ∙ s)) i)
 
-    go : (audit make history help : Bool) → (bytes_eq (codes "audit") w || false) ≡ audit → (bytes_eq (codes "make") w || false) ≡ make → (bytes_eq (codes "history") w || false) ≡ history
-        → (bytes_eq (codes "help") w || false) ≡ help → Some w ≡ o
-    go true make history help a b c d = of_literal (codes "audit") (same _ _ a) (enters (codes "audit") rest refl refl)
-    go false true history help a b c d = of_literal (codes "make") (same _ _ b) (enters (codes "make") rest refl refl)
-    go false false true help a b c d = of_literal (codes "history") (same _ _ c) (enters (codes "history") rest refl refl)
-    go false false false true a b c d = of_literal (codes "help") (same _ _ d) (enters (codes "help") rest refl refl)
-    go false false false false a b c d =
-        let none = met_is w ∙ met_none _ _ _ _ a b c d in
+    go : (audit make history follow help : Bool) → (bytes_eq (codes "audit") w || false) ≡ audit → (bytes_eq (codes "make") w || false) ≡ make → (bytes_eq (codes "history") w || false) ≡ history
+        → (bytes_eq (codes "follow") w || false) ≡ follow → (bytes_eq (codes "help") w || false) ≡ help → Some w ≡ o
+    go true make history follow help a b c d f = of_literal (codes "audit") (same _ _ a) (enters (codes "audit") rest refl refl)
+    go false true history follow help a b c d f = of_literal (codes "make") (same _ _ b) (enters (codes "make") rest refl refl)
+    go false false true follow help a b c d f = of_literal (codes "history") (same _ _ c) (enters (codes "history") rest refl refl)
+    go false false false true help a b c d f = of_literal (codes "follow") (same _ _ d) (enters (codes "follow") rest refl refl)
+    go false false false false true a b c d f = of_literal (codes "help") (same _ _ f) (enters (codes "help") rest refl refl)
+    go false false false false false a b c d f =
+        let none = met_is w ∙ met_none _ _ _ _ _ a b c d f in
         let is : w ≡ 45 ∷ 45 ∷ [] = (bytes_eq-Decides w (45 ∷ 45 ∷ [])).0 (none_turn w (met_by w) none (walk_part w rest e)) in
         nothing (45 ∷ 45 ∷ []) (sym is) (dashes rest (subst (λ (x : Text). fault_of program (x ∷ rest) ≡ []) is e))

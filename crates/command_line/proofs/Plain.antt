@@ -9,7 +9,7 @@ use Rattle.std.proofs.lemmas.Bool.{not-true}
 use Rattle.clap.proofs.OnLiterals.{clap_on_literals}
 use Rattle.command_line.specs.Commands.{program}
 use Rattle.command_line.proofs.Numbers.{one_is_numeral, slice_is_numeral}
-use Rattle.command_line.specs.Asked.{is_plain_word, IsAuditFound, IsMakeFound, IsHistoryFound}
+use Rattle.command_line.specs.Asked.{is_plain_word, IsAuditFound, IsFollowFound, IsMakeFound, IsHistoryFound}
 
 -- a plain word goes to a positional
 met : (c : List Rule) (position : ℕ) (t : Text) (h : Held) → is_plain_word t ≡ true → word_met c [] false idle position t h ≡ (h, value)
@@ -168,3 +168,33 @@ history_is t e p q = ap (λ (rows : List Row). Some (codes "history", rows)) (tw
 
 pub history_found : (t e : Text) → IsHistoryFound (rows_of_two (sub 2) t e) t e
 history_found t e = record { trace = refl; tuple = refl }
+
+-- ---- `follow` with a word, and without
+
+abbrev pub follow_rows : Text → List Row
+follow_rows t = finished (sub 3).rules (placed (sub 3) 1 t nothing_held).held
+
+pub follow_taken : (t : Text) → is_plain_word t ≡ true → takes program (codes "follow" ∷ t ∷ []) ≡ true
+unfolding clap_on_literals
+follow_taken t p = ap (λ (b : Bool). b && true) (one_passes (sub 3) t p refl)
+
+pub follow_is : (t : Text) → is_plain_word t ≡ true → subcommand_of program (codes "follow" ∷ t ∷ []) ≡ Some (codes "follow", follow_rows t)
+unfolding clap_on_literals
+follow_is t p = ap (λ (w : Walk). Some (codes "follow", finished (sub 3).rules w.held)) (step (sub 3) 1 t nothing_held p)
+
+pub follow_found : (t : Text) → IsFollowFound (follow_rows t) t false
+follow_found t = record { trace = refl; heartbeat_given = refl }
+
+abbrev pub input_rows : List Row
+input_rows = finished (sub 3).rules nothing_held
+
+pub input_taken : takes program (codes "follow" ∷ []) ≡ true
+unfolding clap_on_literals walk_passes
+input_taken = refl
+
+pub input_is : subcommand_of program (codes "follow" ∷ []) ≡ Some (codes "follow", input_rows)
+unfolding clap_on_literals
+input_is = refl
+
+pub input_found : IsFollowFound input_rows (codes "/dev/stdin") false
+input_found = record { trace = refl; heartbeat_given = refl }

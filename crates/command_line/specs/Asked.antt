@@ -22,6 +22,7 @@ pub data Asked : Type 0 where
   audits : Text → Option Text → ℕ → ℕ → Bool → Asked
   makes : Text → Bool → Asked
   tells : Text → Text → Asked
+  follows : Text → Bool → Asked
 
 abbrev pub asked_by : Request → Asked
 asked_by request.Joined = joined
@@ -29,6 +30,7 @@ asked_by (request.Audit trace evidence workers slice early) =
     audits trace.now (option_map (λ e. e.now) evidence) workers slice early
 asked_by (request.Make trace list) = makes trace.now list
 asked_by (request.History trace tuple) = tells trace.now tuple.now
+asked_by (request.Follow trace heartbeat) = follows trace.now heartbeat
 
 abbrev pub asked_in : Answer → Option Asked
 asked_in (answer.Asks r) = Some (asked_by r)
@@ -40,6 +42,7 @@ command_of joined = None
 command_of (audits _ _ _ _ _) = Some (codes "audit")
 command_of (makes _ _) = Some (codes "make")
 command_of (tells _ _) = Some (codes "history")
+command_of (follows _ _) = Some (codes "follow")
 
 -- the number that the text of an argument writes
 pub record IsNumberIn (rows : List Row) (id : Text) (n : ℕ) : Type 0 where
@@ -75,6 +78,10 @@ pub record IsHistoryFound (rows : List Row) (t u : Text) : Type 0 where
   pub trace : first_of (codes "TRACE") rows ≡ Some t
   pub tuple : first_of (codes "TUPLE") rows ≡ Some u
 
+pub record IsFollowFound (rows : List Row) (t : Text) (heartbeat : Bool) : Type 0 where
+  pub trace : first_of (codes "TRACE") rows ≡ Some t
+  pub heartbeat_given : GivesFlag rows (codes "heartbeat") heartbeat
+
 -- the text of a flag does not say the other thing
 abbrev pub IsFlagIn : List Row → Text → Bool → Type 0
 IsFlagIn rows id b = ¬ (one_of id rows ≡ Some (if b then codes "false" else codes "true"))
@@ -88,6 +95,8 @@ IsFoundIn rows (audits t e workers slice early) =
     × IsFlagIn rows (codes "early") early
 IsFoundIn rows (makes t list) = (first_of (codes "TRACE") rows ≡ Some t) × IsFlagIn rows (codes "list") list
 IsFoundIn rows (tells t u) = (first_of (codes "TRACE") rows ≡ Some t) × (first_of (codes "TUPLE") rows ≡ Some u)
+IsFoundIn rows (follows t heartbeat) =
+    (first_of (codes "TRACE") rows ≡ Some t) × IsFlagIn rows (codes "heartbeat") heartbeat
 
 -- and that stands behind the command's name
 abbrev pub IsFoundBehind : Option (Text × List Row) → Asked → Type 0
@@ -112,6 +121,8 @@ IsWholeIn found (audits t e workers slice early) =
     (rows : List Row) × (found ≡ Some (codes "audit", rows)) × IsAuditFound rows t e workers slice early
 IsWholeIn found (makes t list) = (rows : List Row) × (found ≡ Some (codes "make", rows)) × IsMakeFound rows t list
 IsWholeIn found (tells t u) = (rows : List Row) × (found ≡ Some (codes "history", rows)) × IsHistoryFound rows t u
+IsWholeIn found (follows t heartbeat) =
+    (rows : List Row) × (found ≡ Some (codes "follow", rows)) × IsFollowFound rows t heartbeat
 
 -- the words write a whole request
 abbrev pub Write : List Text → Asked → Type 0

@@ -168,6 +168,32 @@ fn history<'a>(alloc: Global) -> Result<Command<'a>, AllocError>
     )
 }
 
+fn followed<'a>(alloc: Global) -> Arg<'a>
+    ensures { spec.IsArg (spec.file_or (codes "TRACE") (codes "/dev/stdin")) result }
+{
+    Arg::new(alloc, "TRACE").default_value("/dev/stdin").help(
+        "The trace, JSON lines, a file or a pipe; without one standard input",
+    )
+}
+
+fn follow<'a>(alloc: Global) -> Result<Command<'a>, AllocError>
+    ensures { IfOk result (spec.IsCommand spec.follow) }
+{
+    let heartbeat = flag(
+        alloc,
+        "heartbeat",
+        "Tell up to which line all entries are settled, after each read that settles any",
+    );
+    let args = vec![in alloc; followed(alloc), heartbeat]?;
+    command(
+        alloc,
+        "follow",
+        "Audits a trace as it comes, by evidence that it makes, and tells each finding as soon as nothing can change it",
+        "Example: tail -n +1 -F trace.jsonl | new_enemy follow --heartbeat\n\nThe lines are those of the report of audit --make, in the order in which they can be told. At the end of the\ninput come those that are left, the two counts and the verdict.\nExit status: 0 clean, 1 dirty, 2 the trace is refused, 3 the words are, 4 out of memory,\n5 a file can't be opened or a device failed. With 2 to 5 there is no verdict; what was told before stands.",
+        args,
+    )
+}
+
 /// The program before its commands are added.
 fn bare<'a>(alloc: Global) -> Result<Command<'a>, AllocError>
     ensures { IfOk result (spec.IsCommand spec.bare) }
@@ -191,7 +217,8 @@ fn with_commands<'a>(alloc: Global, audit: Command<'a>) -> Result<Command<'a>, A
 {
     let make = make(alloc)?;
     let history = history(alloc)?;
-    let commands = vec![in alloc; audit, make, history]?;
+    let follow = follow(alloc)?;
+    let commands = vec![in alloc; audit, make, history, follow]?;
     bare(alloc)?.subcommands(commands)
 }
 

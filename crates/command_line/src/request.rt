@@ -3,7 +3,7 @@
 ghost use Rattle.std.specs.Prelude.{◌≡◌, ◌⊎◌, ℕ, [], ◌∷◌, Ok, Some, None, true, false, not, is_some, Bool, List, Option, IfOk, IfErr, IfSome, codes, map, slice_get, string_bytes, option_map};
 ghost use Rattle.clap.specs.Words.{Row, Text, rows_of, found_of, first_of, one_of, subcommand_of, subcommand_rows_of, takes, kind_of, FailsBy, fault_of};
 ghost use Rattle.command_line.specs.Commands as spec;
-ghost use Rattle.command_line.specs.Asked.{AreTaken, AskForHelp, Asked, GivesFlag, GivesNumber, IsAskedBy, IsAuditFound, IsFlagIn, IsFoundBehind, IsFoundIn, IsHistoryFound, IsMakeFound, IsNumberIn, IsWholeIn, Write, asked_by, asked_in, command_of, is_plain_word, is_to_show, audits, makes, tells};
+ghost use Rattle.command_line.specs.Asked.{AreTaken, AskForHelp, Asked, GivesFlag, GivesNumber, IsAskedBy, IsAuditFound, IsFlagIn, IsFollowFound, IsFoundBehind, IsFoundIn, IsHistoryFound, IsMakeFound, IsNumberIn, IsWholeIn, Write, asked_by, asked_in, command_of, is_plain_word, is_to_show, audits, follows, makes, tells};
 ghost use Rattle.command_line.specs.declared.request.Answer.TheVariants.{Asks};
 ghost use Rattle.command_line.specs.declared.request.Request.TheVariants.{Joined};
 
@@ -36,6 +36,11 @@ pub enum Request<'a> {
     History {
         trace: &'a str,
         tuple: &'a str,
+    },
+    /// The audit of the trace of a file as it comes, by evidence that is made; with heartbeats where they are asked for.
+    Follow {
+        trace: &'a str,
+        heartbeat: bool,
     },
 }
 
@@ -165,6 +170,19 @@ fn history_of<'a>(matches: &ArgMatches<'a>) -> Option<Request<'a>>
     }
 }
 
+fn follow_of<'a>(matches: &ArgMatches<'a>) -> Option<Request<'a>>
+    ensures asked { (t : Text) (heartbeat : Bool) → IsFollowFound (rows_of (found_of matches.now)) t heartbeat
+        → option_map asked_by result ≡ Some (follows t heartbeat) }
+    ensures named { IfSome result (λ r. command_of (asked_by r) ≡ Some (codes "follow")) }
+    ensures given { IfSome result (λ r. IsFoundIn (rows_of (found_of matches.now)) (asked_by r)) }
+{
+    let heartbeat = has(matches, "heartbeat");
+    match text(matches, "TRACE") {
+        Some(trace) => Some(Request::Follow { trace, heartbeat }),
+        None => None,
+    }
+}
+
 fn request_of<'a>(matches: &ArgMatches<'a>) -> Option<Request<'a>>
     ensures audit { (rows : List Row) (t : Text) (e : Option Text) (w n : ℕ) (early : Bool)
         → subcommand_rows_of matches.now ≡ Some (codes "audit", rows) → IsAuditFound rows t e w n early
@@ -175,6 +193,9 @@ fn request_of<'a>(matches: &ArgMatches<'a>) -> Option<Request<'a>>
     ensures history { (rows : List Row) (t u : Text)
         → subcommand_rows_of matches.now ≡ Some (codes "history", rows) → IsHistoryFound rows t u
         → option_map asked_by result ≡ Some (tells t u) }
+    ensures follow { (rows : List Row) (t : Text) (heartbeat : Bool)
+        → subcommand_rows_of matches.now ≡ Some (codes "follow", rows) → IsFollowFound rows t heartbeat
+        → option_map asked_by result ≡ Some (follows t heartbeat) }
     ensures named { IfSome result
         (λ r. option_map (λ p. p.0) (subcommand_rows_of matches.now) ≡ command_of (asked_by r)) }
     ensures some { IfSome result (λ r. is_some (command_of (asked_by r)) ≡ true) }
@@ -184,6 +205,7 @@ fn request_of<'a>(matches: &ArgMatches<'a>) -> Option<Request<'a>>
         ("audit", found) => audit_of(found),
         ("make", found) => make_of(found),
         ("history", found) => history_of(found),
+        ("follow", found) => follow_of(found),
         _ => None,
     }
 }
@@ -253,6 +275,10 @@ pub fn read_words<'a>(alloc: Global, words: &'a [String]) -> Result<Answer<'a>, 
     ensures history { (t u : Text) → map string_bytes words.now ≡ codes "history" ∷ t ∷ u ∷ []
         → is_plain_word t ≡ true → is_plain_word u ≡ true
         → IfOk result (λ a. asked_in a ≡ Some (tells t u)) }
+    ensures follow { (t : Text) → map string_bytes words.now ≡ codes "follow" ∷ t ∷ [] → is_plain_word t ≡ true
+        → IfOk result (λ a. asked_in a ≡ Some (follows t false)) }
+    ensures follow_input { map string_bytes words.now ≡ codes "follow" ∷ []
+        → IfOk result (λ a. asked_in a ≡ Some (follows (codes "/dev/stdin") false)) }
 {
     if words.is_empty() {
         return Ok(Answer::Asks(Request::Joined));

@@ -138,7 +138,8 @@ pub fn findings_judged(
     Ok(findings)
 }
 
-fn push_lines(findings: &[Finding], text: &mut String) -> Result<(), AllocError>
+/// Appends the line of each finding. It is refused only where memory runs out.
+pub fn push_lines(findings: &[Finding], text: &mut String) -> Result<(), AllocError>
     ensures { OnOk result (string_bytes text.new ≡ string_bytes text.old ++ flat_map line_text findings.now) }
 {
     for finding in findings {
@@ -147,7 +148,8 @@ fn push_lines(findings: &[Finding], text: &mut String) -> Result<(), AllocError>
     Ok(())
 }
 
-fn push_last_lines(
+/// Appends how many entries and findings there are, and the verdict. It is refused only where memory runs out.
+pub fn push_last_lines(
     findings: &[Finding],
     entries: usize,
     text: &mut String,

@@ -27,6 +27,7 @@ mod finding;
 pub mod laws;
 
 pub use entries::{
-    findings_judged, findings_of, found_judged, found_on, found_where, push_found, report_of,
+    findings_judged, findings_of, found_judged, found_on, found_where, push_found, push_last_lines,
+    push_lines, report_of,
 };
 pub use finding::{Finding, What, report_line};

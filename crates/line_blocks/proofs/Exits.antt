@@ -9,7 +9,8 @@ use Rattle.json_lines.specs.declared.lines.InputFault.TheVariants.{OutOfMemory, 
 use Rattle.json_lines.specs.declared.reading.LineFault.{LineFault}
 use Rattle.json_lines.specs.declared.reading.Stop.{Stop}
 use Rattle.json_lines.specs.declared.reading.Stop.TheVariants.{Input, Line}
-use Rattle.json_lines.proofs.Folds.{GoesFrom, came_in_all, cut_ends, from_one, last_ends, line_came, read_fails, step_cut, within_from}
+use Rattle.json_lines.specs.SoFar.{GoesFrom}
+use Rattle.json_lines.proofs.Folds.{came_in_all, cut_ends, from_one, last_ends, line_came, read_fails, step_cut, within_from}
 use Rattle.devices.proofs.Given.{next-trans}
 use Rattle.line_blocks.specs.Reads.{LeadsTo, StopsAt}
 use Rattle.line_blocks.specs.Values.{long_line}

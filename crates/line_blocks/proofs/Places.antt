@@ -6,7 +6,7 @@ use Rattle.json_lines.specs.declared.lines.InputFault.TheVariants.{OutOfMemory, 
 use Rattle.json_lines.specs.declared.reading.LineFault.{LineFault}
 use Rattle.json_lines.specs.declared.reading.Stop.{Stop}
 use Rattle.json_lines.specs.declared.reading.Stop.TheVariants.{Input, Line}
-use Rattle.json_lines.proofs.Folds.{GoesFrom}
+use Rattle.json_lines.specs.SoFar.{GoesFrom}
 use Rattle.line_blocks.specs.Blocks.{joined, lines_in}
 use Rattle.line_blocks.specs.Parts.{put_parts, taken_by}
 use Rattle.line_blocks.specs.Reads.{LeadsTo, StopsAt}

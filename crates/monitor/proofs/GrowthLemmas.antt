@@ -18,7 +18,7 @@ use Rattle.monitor.proofs.CommitLemmas.{line_later}
 use Rattle.monitor.proofs.StandingLemmas.{placed_at}
 
 -- the last of numbers that rise is the greatest
-below_last : (ns : List ℕ) → IsStrictlyIncreasing ns → (j : ℕ) → j < length ns → get_or ns j 0 < after_last ns
+pub below_last : (ns : List ℕ) → IsStrictlyIncreasing ns → (j : ℕ) → j < length ns → get_or ns j 0 < after_last ns
 below_last ns rising j lt =
     let last = slice_get-get_or ns (length ns - 1) 0 (omega (arith, lt)) in
     rw last (elim (cases_lt j (length ns - 1)) [
@@ -27,7 +27,7 @@ below_last ns rising j lt =
     ])
 
 -- of what stands behind others
-behind : {X : Type 0} (P : X → Type 0) (xs ys : List X) → All P ys → (i : ℕ) (x : X) → length xs ≤ i
+pub behind : {X : Type 0} (P : X → Type 0) (xs ys : List X) → All P ys → (i : ℕ) (x : X) → length xs ≤ i
     → slice_get (xs ++ ys) i ≡ Some x → P x
 behind P [] ys all i x le at = subst P (get_or_from_slice_get ys i x x at) (all i x (slice_get_within ys i x at))
 behind P (y ∷ xs) ys all zero x le at = absurd (omega (arith, le))
@@ -46,7 +46,7 @@ module _ {k : ℕ} (t u : TraceValue) (goes : GoesOn k t u) (old : AreInPlace t)
       let same = ap (λ (cs : List Commit). length cs) goes.committed in
       omega (arith, n, same)
 
-  same_entry : (i : ℕ) → i < length t.entries → slice_get u.entries i ≡ slice_get t.entries i
+  pub same_entry : (i : ℕ) → i < length t.entries → slice_get u.entries i ≡ slice_get t.entries i
   same_entry i lt = ap (λ (es : List EntryValue). slice_get es i) goes.recorded ∙ slice_get-front t.entries goes.entries i lt
 
   same_time : (c : ℕ) → c < length t.commits → time_of u c ≡ time_of t c
@@ -56,7 +56,7 @@ module _ {k : ℕ} (t u : TraceValue) (goes : GoesOn k t u) (old : AreInPlace t)
       ∙ ap (λ (ns : List ℕ). get_or ns c 0) (map-append (λ (x : Commit). x.at) t.commits goes.commits)
       ∙ get_or-append (map (λ (x : Commit). x.at) t.commits) (map (λ (x : Commit). x.at) goes.commits) 0 c (omega (arith, lt, long))
 
-  same_line : (c : ℕ) → c < length t.commits → line_of u c ≡ line_of t c
+  pub same_line : (c : ℕ) → c < length t.commits → line_of u c ≡ line_of t c
   same_line c lt =
       let count = old.commits.counted in
       ap (λ (ns : List ℕ). get_or ns c 0) goes.on_lines

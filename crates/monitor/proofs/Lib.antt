@@ -1,5 +1,6 @@
 pub mod CommitLemmas
 pub mod GrowthLemmas
+pub mod LongerLemmas
 pub mod RunLemmas
 pub mod StandingLemmas
 pub mod TellingLemmas

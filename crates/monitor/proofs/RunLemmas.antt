@@ -13,6 +13,7 @@ use Rattle.findings.specs.declared.finding.Finding.{Finding}
 use Rattle.follow_laws.specs.Begun.{IsOfBytes}
 use Rattle.follow_laws.specs.Told.{is_at, settling_line, told_before, told_from, told_on}
 use Rattle.follow_laws.proofs.OnceLemmas.{once_to}
+use Rattle.monitor.specs.SoFar.{IsTold, IsUpTo}
 use Rattle.monitor.specs.Standing.{IsAtEnd, IsCommitNext, Takes, line_of}
 use Rattle.monitor.specs.Telling.{Tells, TellsLeft, told_of}
 use Rattle.monitor.specs.Whole.{TellsAll}
@@ -101,30 +102,6 @@ module _ (t : TraceValue) (test : Option ℕ → Bool) (one other : List (Option
       picked t test one other 0 t.entries i e at
       ∙ ap (λ (b : Bool). cond b (steps_of other (0 + i)) (steps_of one (0 + i))) is ∙ ap (steps_of one) here
 
--- ---- up to a line
-
--- what was taken stands before line k, and what was not from there on
-pub record IsUpTo (t : TraceValue) (m : Monitor) (k : ℕ) : Type 0 where
-  pub entries_before : (i : ℕ) (e : EntryValue) → slice_get t.entries i ≡ Some e → i < m.entries → e.line < k
-  pub entries_from : (i : ℕ) (e : EntryValue) → slice_get t.entries i ≡ Some e → m.entries ≤ i → k ≤ e.line
-  pub commits_before : (c : ℕ) → c < length t.commits → c < m.commits → line_of t c < k
-  pub commits_from : (c : ℕ) → c < length t.commits → m.commits ≤ c → k ≤ line_of t c
-
--- the steps for each entry that is settled before line k may be those
-abbrev pub AreAllowedBefore : (TraceValue → EntryValue → Option (List StepValue) → Type 0) → TraceValue → ℕ
-    → List (Option (List StepValue)) → Type 0
-AreAllowedBefore Allows t k given = (i : ℕ) (e : EntryValue) → slice_get t.entries i ≡ Some e → (l : ℕ)
-    → settling_line t e ≡ Some l → l < k → Allows t e (steps_of given i)
-
--- told was what is told before line k
-pub record IsTold (Allows : TraceValue → EntryValue → Option (List StepValue) → Type 0) (t : TraceValue) (m : Monitor)
-    (old new : List Finding) : Type 0 where
-  pub line : ℕ
-  pub given : List (Option (List StepValue))
-  pub up_to : IsUpTo t m line
-  pub allowed : AreAllowedBefore Allows t line given
-  pub told : new ≡ old ++ told_before t given line
-
 same_before : (t : TraceValue) (one other : List (Option (List StepValue))) (k : ℕ)
     → ((i : ℕ) (e : EntryValue) → slice_get t.entries i ≡ Some e → (l : ℕ) → settling_line t e ≡ Some l → l < k
     → steps_of one i ≡ steps_of other i) → told_before t one k ≡ told_before t other k
@@ -166,7 +143,7 @@ module _ (t : TraceValue) (placed : AreInPlace t) (rising : IsStrictlyIncreasing
   }
 
   -- lines at which nothing was taken tell nothing
-  quiet : (m : Monitor) (k n : ℕ) → IsUpTo t m k → IsUpTo t m n → k ≤ n → (given : List (Option (List StepValue)))
+  pub quiet : (m : Monitor) (k n : ℕ) → IsUpTo t m k → IsUpTo t m n → k ≤ n → (given : List (Option (List StepValue)))
       → told_before t given n ≡ told_before t given k
   quiet m k zero low high le given = ap (told_before t given) (let z : zero ≡ k = omega (arith, le) in z)
   quiet m k (suc n) low high le given = elim (cases_lt k (suc n)) [
@@ -252,7 +229,7 @@ module _ (t : TraceValue) (placed : AreInPlace t) (rising : IsStrictlyIncreasing
       )
 
   -- an entry is settled before the line up to which all was taken, or from the next one on
-  settled_apart : (m : Monitor) (k l : ℕ) → IsUpTo t m k → IsUpTo t m l → (i : ℕ) (e : EntryValue) → slice_get t.entries i ≡ Some e
+  pub settled_apart : (m : Monitor) (k l : ℕ) → IsUpTo t m k → IsUpTo t m l → (i : ℕ) (e : EntryValue) → slice_get t.entries i ≡ Some e
       → (s : ℕ) → settling_line t e ≡ Some s → s < l → s < k
   settled_apart m k l low high i e at s is lt = elim (settles_at_event t commits e (placed_at t placed i e at) s is) [
     | inl own ↦ elim (cases_lt i m.entries) [

@@ -1,3 +1,4 @@
+pub mod SoFar
 pub mod Standing
 pub mod Telling
 pub mod Waiting

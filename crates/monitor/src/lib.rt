@@ -28,4 +28,4 @@ mod whole;
 
 pub use judge::Judge;
 pub use monitor::Monitor;
-pub use whole::tell_all;
+pub use whole::{tell_all, tell_further};

@@ -1,6 +1,9 @@
-//! What a monitor tells of a whole trace.
+//! What a monitor tells of all lines that a trace has.
 
-ghost use Rattle.std.specs.Prelude.{◌≡◌, OnOk};
+ghost use Rattle.std.specs.Prelude.{◌≡◌, List, OnOk};
+ghost use Rattle.findings.specs.declared.finding.Finding.{Finding};
+ghost use Rattle.monitor.specs.SoFar.{IsTold};
+ghost use Rattle.monitor.specs.Standing.{IsAtEnd, Stands};
 ghost use Rattle.monitor.specs.Whole.{TellsAll};
 
 use crate::judge::Judge;
@@ -9,6 +12,29 @@ use findings::Finding;
 use std::alloc::{AllocError, Global};
 use trace_lines::Trace;
 use trace_lines::laws::{entries_rise, stand_in_order, valid_strata, versions_issued_once};
+
+/// Takes all lines of a trace that were not taken yet, and adds to the findings what is told there. It is refused only
+/// where memory runs out; the monitor is then no longer of use.
+pub fn tell_further<J: Judge>(
+    trace: &Trace,
+    monitor: &mut Monitor,
+    judge: &mut J,
+    told: &mut Vec<Finding>,
+) -> Result<(), AllocError>
+    requires stands { Stands trace.now monitor.old }
+    requires judge { J.of judge.old ≡ trace.now }
+    ensures stands { OnOk result (Stands trace.now monitor.new) }
+    ensures all { OnOk result (IsAtEnd trace.now monitor.new) }
+    ensures judge { J.of judge.new ≡ J.of judge.old }
+    ensures told { OnOk result ((start : List Finding) → IsTold J.allows trace.now monitor.old start told.old.items
+        → IsTold J.allows trace.now monitor.new start told.new.items) }
+{
+    stand_in_order(trace);
+    entries_rise(trace);
+    // each turn takes an entry or a commit
+    while monitor.take(trace, judge, told)?.is_some() {}
+    Ok(())
+}
 
 /// Tells of a whole trace, line by line and at its end: that is what is found on it, each finding once. It is refused
 /// only where memory runs out.
@@ -26,7 +52,6 @@ pub fn tell_all<J: Judge>(
     versions_issued_once(trace);
     valid_strata(trace);
     let mut monitor = Monitor::new(alloc);
-    // each turn takes an entry or a commit
-    while monitor.take(trace, judge, told)?.is_some() {}
+    tell_further(trace, &mut monitor, judge, told)?;
     monitor.end(trace, judge, told)
 }

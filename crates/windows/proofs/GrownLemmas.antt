@@ -92,7 +92,7 @@ same_rules s namespace relation [] es h = none_in_force s namespace relation es 
 same_rules s namespace relation (d ∷ ds) es h = ap (λ (o : Option Relation). option_or o (in_force s namespace relation
     d)) (same_rules s namespace relation ds es h)
 
-same_store : (s : ℕ) (cs ds : List Commit) → AllByRecursion (IsAbove s) ds → store_at (cs ++ ds) s ≡ store_at cs s
+pub same_store : (s : ℕ) (cs ds : List Commit) → AllByRecursion (IsAbove s) ds → store_at (cs ++ ds) s ≡ store_at cs s
 same_store s cs ds h =
     let log : until s (changelog (cs ++ ds)) ≡ until s (changelog cs) =
     ap (until s) (flat_map-append touches cs ds)
@@ -170,7 +170,7 @@ module _ {k : ℕ} (u t : TraceValue) (goes : GoesOn k u t) (placed : HasPlacedC
         by_entries true (x ∷ xs) k there = refl
         by_entries false (x ∷ xs) k there = ap not (ne_eqb (length (x ∷ xs)) 0 (λ h. omega (arith, h)))
 
-    same_at : StaysClosed u t goes e.snapshot → IsSameAt e.snapshot t u
+    pub same_at : StaysClosed u t goes e.snapshot → IsSameAt e.snapshot t u
     same_at closed = record {
       rules = λ namespace relation. ap (option_map as_rule) (
           ap (λ (ds : List Declaration). relation_at ds e.snapshot namespace relation) goes.declared

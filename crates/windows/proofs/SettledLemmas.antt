@@ -1,11 +1,12 @@
 -- What was found on a settled entry stays.
 use Rattle.std.proofs.Common.{◌≡◌, ℕ, ◌<◌, ◌≤◌, ◌||◌, Bool, true, false, cond, ltb, leb, List, [], ◌∷◌, ◌++◌, Option, Some, None, refl, ◌∙◌, ap, arith}
-use Rattle.std.specs.Prelude.{slice_get, filter}
+use Rattle.std.specs.Prelude.{slice_get, filter, All}
 use Rattle.std.specs.List.{AllByRecursion, list_any}
 use Rattle.std.proofs.lemmas.Bool.{lt-leb, leb-true}
 use Rattle.std.proofs.lemmas.Option.{slice_get_within}
 use Rattle.std.proofs.lemmas.List.Elements.{All-filter, All-from_recursion, filter-append, recursion_from_All}
-use Rattle.version_chains.specs.Commits.{Commit}
+use Rattle.namespaces.specs.Lookup.{rule_at}
+use Rattle.version_chains.specs.Commits.{Commit, store_at}
 use Rattle.marks.proofs.PlacedLemmas.{slice_get-front}
 use Rattle.trace_lines.specs.Values.{EntryValue, TraceValue}
 use Rattle.token_order.specs.Order.{CommitLine, on_lines, commit_lines_of}
@@ -17,7 +18,7 @@ use Rattle.evidence_check.specs.Steps.{StepValue}
 use Rattle.evidence_check.specs.declared.judged.Judged.{Judged}
 use Rattle.findings.specs.Findings.{found_by, found_on_tokens, found_on}
 use Rattle.windows.proofs.CompactionLemmas.{AreOrdered, IsAbove, ordered}
-use Rattle.windows.proofs.GrownLemmas.{on_more_lines, stands}
+use Rattle.windows.proofs.GrownLemmas.{on_more_lines, same_at, same_store, stands}
 use Rattle.windows.specs.Growth.{GoesOn, HasRisingLines, IsSettled}
 
 -- ---- more behind a list
@@ -122,9 +123,20 @@ module _ {k : ℕ} (t u : TraceValue) (goes : GoesOn k t u) (first : HasRisingLi
         (All-filter p later new_lines (All-from_recursion later new_lines (lines_above e.snapshot goes.commit_lines
         goes.commits above))))
 
+    closed : All (λ (c : Commit). e.snapshot < c.at) goes.commits
+    closed = All-from_recursion (IsAbove e.snapshot) goes.commits above
+
+    -- at the entry's snapshot the same rules are in force, and the same is stored
+    pub same_rules_then : rule_at u.declarations e.snapshot ≡ rule_at t.declarations e.snapshot
+    same_rules_then = λ j namespace relation.
+        (same_at t u goes first.commits first.entries i e at closed).rules namespace relation j
+
+    pub same_store_then : store_at u.commits e.snapshot ≡ store_at t.commits e.snapshot
+    same_store_then = ap (λ (cs : List Commit). store_at cs e.snapshot) goes.committed
+        ∙ same_store e.snapshot t.commits goes.commits above
+
     pub same_judgement : (steps : Option (List StepValue)) → judged u e steps ≡ judged t e steps
-    same_judgement = (stands t u goes first.commits first.entries).judgement i e at (All-from_recursion (IsAbove
-        e.snapshot) goes.commits above)
+    same_judgement = (stands t u goes first.commits first.entries).judgement i e at closed
 
     pub same_found : (evidence more : List (Option (List StepValue))) → steps_of more i ≡ steps_of evidence i
         → found_on u more i e ≡ found_on t evidence i e

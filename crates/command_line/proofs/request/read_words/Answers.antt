@@ -1,7 +1,7 @@
-use Rattle.std.proofs.Common.{rules, ap, ◌≡◌, ◌∙◌, sym, subst, map, option_map, string_bytes, Option, Some, None, false, List}
+use Rattle.std.proofs.Common.{rules, codes, ap, ◌≡◌, ◌∙◌, sym, subst, map, option_map, string_bytes, Option, Some, None, false, List}
 use Rattle.clap.specs.Words.{Row, Text, subcommand_of, takes}
 use Rattle.command_line.specs.Commands.{program}
-use Rattle.command_line.proofs.Plain.{sub, rows_of_two, audit_is, audit_found, audit_taken, made_rows, made_is, made_found, made_taken, make_rows, make_is, make_found, make_taken, history_is, history_found, history_taken}
+use Rattle.command_line.proofs.Plain.{sub, rows_of_two, audit_is, audit_found, audit_taken, made_rows, made_is, made_found, made_taken, make_rows, make_is, make_found, make_taken, history_is, history_found, history_taken, follow_rows, follow_is, follow_found, follow_taken, input_rows, input_is, input_found, input_taken}
 use Rattle.command_line.specs.Asked.{IsWholeIn, asked_by, command_of}
 use Rattle.command_line.proofs.First.{named}
 use Rattle.command_line.proofs.Whole.{asked_whole, only_memory, shown_asked}
@@ -19,6 +19,12 @@ returns-in-Some-clause-make c t ws p = c.in-Some.ensures.make (make_rows t) t fa
 pub returns-in-Some-clause-history : goal.returns-in-Some-clause-history
 returns-in-Some-clause-history c t u ws p q = c.in-Some.ensures.history (rows_of_two (sub 2) t u) t u (c.in-Ok.ensures.matches ∙ (ap (λ (words : List Text). subcommand_of program words) ws ∙ history_is t u p q)) (history_found t u)
 
+pub returns-in-Some-clause-follow : goal.returns-in-Some-clause-follow
+returns-in-Some-clause-follow c t ws p = c.in-Some.ensures.follow (follow_rows t) t false (c.in-Ok.ensures.matches ∙ (ap (λ (words : List Text). subcommand_of program words) ws ∙ follow_is t p)) (follow_found t)
+
+pub returns-in-Some-clause-follow_input : goal.returns-in-Some-clause-follow_input
+returns-in-Some-clause-follow_input c ws = c.in-Some.ensures.follow input_rows (codes "/dev/stdin") false (c.in-Ok.ensures.matches ∙ (ap (λ (words : List Text). subcommand_of program words) ws ∙ input_is)) input_found
+
 pub returns-in-Some-clause-first : goal.returns-in-Some-clause-first
 returns-in-Some-clause-first c =
     named (map string_bytes c.args.words.now) (command_of (asked_by c.in-Some.request)) c.in-Ok.ensures.kinds (sym (ap (option_map (λ p. p.0)) c.in-Ok.ensures.matches) ∙ c.in-Some.ensures.named) c.in-Some.ensures.some
@@ -26,7 +32,7 @@ returns-in-Some-clause-first c =
 -- words that write a whole request ask for it
 pub returns-in-Some-clause-taken : goal.returns-in-Some-clause-taken
 returns-in-Some-clause-taken c taken a writes =
-    asked_whole _ _ c.in-Some.ensures.audit c.in-Some.ensures.make c.in-Some.ensures.history a (subst (λ (found : Option (Text × List Row)). IsWholeIn found a) (sym c.in-Ok.ensures.matches) writes)
+    asked_whole _ _ c.in-Some.ensures.audit c.in-Some.ensures.make c.in-Some.ensures.history c.in-Some.ensures.follow a (subst (λ (found : Option (Text × List Row)). IsWholeIn found a) (sym c.in-Ok.ensures.matches) writes)
 
 -- such words are not refused
 pub returns-in-Ok : goal.returns-in-Ok
@@ -36,7 +42,7 @@ returns-in-Ok c = record {
   first = search rules;
   asked = search rules;
   taken = λ taken a writes.
-      let bad : None ≡ Some a = asked_whole _ None c.in-None.ensures.audit c.in-None.ensures.make c.in-None.ensures.history a
+      let bad : None ≡ Some a = asked_whole _ None c.in-None.ensures.audit c.in-None.ensures.make c.in-None.ensures.history c.in-None.ensures.follow a
       (subst (λ (found : Option (Text × List Row)). IsWholeIn found a) (sym c.in-Ok.ensures.matches) writes) in absurd cc;
   shown = search rules;
   audit = λ t e ws p q.
@@ -47,6 +53,10 @@ returns-in-Ok c = record {
       let bad = c.in-None.ensures.make (make_rows t) t false (c.in-Ok.ensures.matches ∙ (ap (λ (words : List Text). subcommand_of program words) ws ∙ make_is t p)) (make_found t) in absurd cc;
   history = λ t u ws p q.
       let bad = c.in-None.ensures.history (rows_of_two (sub 2) t u) t u (c.in-Ok.ensures.matches ∙ (ap (λ (words : List Text). subcommand_of program words) ws ∙ history_is t u p q)) (history_found t u) in absurd cc;
+  follow = λ t ws p.
+      let bad = c.in-None.ensures.follow (follow_rows t) t false (c.in-Ok.ensures.matches ∙ (ap (λ (words : List Text). subcommand_of program words) ws ∙ follow_is t p)) (follow_found t) in absurd cc;
+  follow_input = λ ws.
+      let bad = c.in-None.ensures.follow input_rows (codes "/dev/stdin") false (c.in-Ok.ensures.matches ∙ (ap (λ (words : List Text). subcommand_of program words) ws ∙ input_is)) input_found in absurd cc;
 }
 
 -- and clap takes them, but where memory runs out
@@ -62,4 +72,6 @@ returns c = record {
   audit_made = λ t ws p. let memory = c.in-Err.ensures.passes (ap (λ (words : List Text). takes program words) ws ∙ made_taken t p) in absurd (search rules);
   make = λ t ws p. let memory = c.in-Err.ensures.passes (ap (λ (words : List Text). takes program words) ws ∙ make_taken t p) in absurd (search rules);
   history = λ t u ws p q. let memory = c.in-Err.ensures.passes (ap (λ (words : List Text). takes program words) ws ∙ history_taken t u p q) in absurd (search rules);
+  follow = λ t ws p. let memory = c.in-Err.ensures.passes (ap (λ (words : List Text). takes program words) ws ∙ follow_taken t p) in absurd (search rules);
+  follow_input = λ ws. let memory = c.in-Err.ensures.passes (ap (λ (words : List Text). takes program words) ws ∙ input_taken) in absurd (search rules);
 }

@@ -1,0 +1,48 @@
+use Rattle.std.proofs.Common.{◌≡◌, ℕ, true, false, List, Option, Some, None, refl, sym, ◌∙◌, subst}
+use Rattle.std.specs.Prelude.{IfSome, is_some}
+use Rattle.findings.specs.declared.finding.Finding.{Finding}
+use Rattle.monitor.specs.SoFar.{IsTold}
+use Rattle.monitor.specs.Standing.{Stands, Takes}
+use Rattle.monitor.specs.Telling.{Tells}
+use Rattle.monitor.specs.declared.monitor.Monitor.{Monitor}
+use Rattle.monitor.proofs.RunLemmas.{told_further}
+use Rattle.monitor.proofs.whole.tell_further.Goals as goal
+
+there : (o : Option ℕ) → is_some o ≡ true → (k : ℕ) × (o ≡ Some k)
+there None h = cc
+there (Some k) h = (k, refl)
+
+gone : (o : Option ℕ) → is_some o ≡ false → o ≡ None
+gone None h = refl
+gone (Some k) h = cc
+
+pub loop-monitor-init : goal.loop-monitor-init
+loop-monitor-init g c = (c.requires.stands, λ start told. told, refl)
+
+pub loop-monitor-preserved : goal.loop-monitor-preserved
+loop-monitor-preserved g c =
+    let t = c.args.trace.now in
+    let line = there c.in_ok-take.field-0 (sym c.if-is_some.ensures) in (
+      c.in_ok-take.ensures.stands,
+      λ start told.
+          told_further t c.stand_in_order.ensures c.entries_rise.ensures g.J.Judge.allows c.loop-monitor.monitor c.take.new.self line.0
+          start c.loop-monitor.told.items c.take.new.told.items (c.loop-monitor.invariant.1 start told)
+          (subst (λ (o : Option ℕ). IfSome o (Takes t c.loop-monitor.monitor c.take.new.self)) line.1 c.in_ok-take.ensures.takes)
+          (subst (λ (o : Option ℕ). IfSome o (λ k. Tells g.J.Judge.allows t k c.loop-monitor.told.items c.take.new.told.items)) line.1
+          c.in_ok-take.ensures.told),
+      c.in_ok-take.ensures.judge ∙ c.loop-monitor.invariant.2,
+    )
+
+pub returns-clause-stands : goal.returns-clause-stands
+returns-clause-stands g c = c.in_ok-take.ensures.stands
+
+pub returns-clause-all : goal.returns-clause-all
+returns-clause-all g c = (c.in_ok-take.ensures.all (gone c.in_ok-take.field-0 (sym c.if-is_some.ensures))).0
+
+pub returns-clause-told : goal.returns-clause-told
+returns-clause-told g c start told =
+    let t = c.args.trace.now in
+    let ended = c.in_ok-take.ensures.all (gone c.in_ok-take.field-0 (sym c.if-is_some.ensures)) in
+    subst (λ (m : Monitor). IsTold g.J.Judge.allows t m start c.take.new.told.items) (sym ended.1)
+    (subst (λ (fs : List Finding). IsTold g.J.Judge.allows t c.loop-monitor.monitor start fs) (sym ended.2)
+    (c.loop-monitor.invariant.1 start told))
