@@ -55,12 +55,13 @@ mod telling;
 mod touches;
 
 pub use early::audit_early;
-pub use finds::Finds;
 pub use findings::{Finding, What, findings_of, report_line, report_of};
+pub use finds::Finds;
 pub use joined::audit_joined;
 pub use judging::MakingJudge;
 pub use made::{make_records, make_records_listing};
 pub use made_audit::audit_made;
 pub use plain::{AuditFault, Verdict, audit_plain, audit_values};
+pub use reading::take_line;
 pub use shared::{LARGEST_SLICE, audit};
 pub use touches::history;

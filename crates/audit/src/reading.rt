@@ -1,16 +1,20 @@
 //! What an audit reads.
 
-ghost use Rattle.std.specs.Prelude.{◌<◌, ◌≤◌, List, Option};
+ghost use Rattle.std.specs.Prelude.{◌≡◌, ◌≢◌, ◌+◌, ◌<◌, ◌≤◌, List, Option, Ok, true};
 ghost use Rattle.evidence_check.specs.Judging.{AreJudged};
+ghost use Rattle.json_lines.specs.declared.reading.TheConstants.{MAX_INPUT};
+ghost use Rattle.trace_lines.specs.TraceReads.{IsTraceSoFar, trace_by};
+ghost use Rattle.trace_lines.specs.Values.{next_line};
 ghost use Rattle.audit.specs.Devices.{reads};
 ghost use Rattle.audit.specs.Parts.{TraceRead, EvidenceRead};
 
 use crate::plain::AuditFault;
 use devices::Source;
 use evidence_check::{EvidenceCause, EvidenceFault, Judged, judge_evidence, judge_evidence_by};
+use json_lines::LineReader;
 use std::alloc::Global;
 use std::thread::Threads;
-use trace_lines::{Cause, Trace, TraceFault, read_trace, read_trace_by};
+use trace_lines::{Cause, Trace, TraceBuilder, TraceFault, read_trace, read_trace_by, take_next};
 
 impl From<TraceFault> for AuditFault {
     ghost use Rattle.audit.specs.Faults.{TellsTraceFault};
@@ -44,6 +48,29 @@ pub(crate) fn trace_from<R: Source>(alloc: Global, reader: &mut R) -> Result<Tra
     ensures { TraceRead (reads R.given R.ends R.failures R.remaining reader.old reader.new) result }
 {
     Ok(read_trace(alloc, reader)?)
+}
+
+/// Takes the next line of a trace, and says whether a further one follows, as
+/// [`trace_lines::take_next`](trace_lines::take_next) does.
+pub fn take_line<R: Source>(
+    lines: &mut LineReader,
+    reader: &mut R,
+    builder: &mut TraceBuilder,
+) -> Result<bool, AuditFault>
+    requires next { next_line builder.old ≤ lines.old.number }
+    requires room { lines.old.number + lines.old.room ≤ MAX_INPUT + 1 }
+    ensures goes { result ≡ Ok true → (first : R)
+        → IsTraceSoFar R.given R.ends R.failures R.remaining first reader.old builder.old lines.old
+        → IsTraceSoFar R.given R.ends R.failures R.remaining first reader.new builder.new lines.new }
+    ensures next { result ≡ Ok true → (lines.new.number ≡ lines.old.number + 1)
+        × (next_line builder.new ≤ lines.new.number) }
+    ensures room { result ≡ Ok true → (lines.new.number + lines.new.room ≤ MAX_INPUT + 1)
+        × (lines.new.room < lines.old.room) }
+    ensures read { result ≢ Ok true → (first : R)
+        → IsTraceSoFar R.given R.ends R.failures R.remaining first reader.old builder.old lines.old
+        → TraceRead (reads R.given R.ends R.failures R.remaining first reader.new) (trace_by builder.new result) }
+{
+    Ok(take_next(lines, reader, builder)?)
 }
 
 /// The trace of a reader, by so many workers, of which several read a block of lines each.

@@ -74,7 +74,8 @@ impl Lines {
 
     /// Whether a whole line is there, with its newline.
     pub fn holds_line(&self) -> bool
-        ensures { result ≡ has_newline self.now }
+        ensures holds { result ≡ has_newline self.now }
+        ensures few { length self.now ≤ CHUNK }
     {
         let pending = self.pending();
         line_end(pending) < pending.len()

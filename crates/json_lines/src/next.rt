@@ -1,11 +1,12 @@
 //! The lines of a reader, one by one.
 
-ghost use Rattle.std.specs.Prelude.{◌≡◌, ◌≢◌, ◌+◌, ◌≤◌, ◌<◌, ◌^◌, [], Ok, true, IfOk, IfErr, OnOk};
+ghost use Rattle.std.specs.Prelude.{◌≡◌, ◌≢◌, ◌+◌, ◌≤◌, ◌<◌, ◌^◌, [], length, Ok, true, IfOk, IfErr};
 ghost use Rattle.json_lines.specs.InputRead.{LinesRead};
 ghost use Rattle.json_lines.specs.Json.{taken_line};
 ghost use Rattle.json_lines.specs.Lines.{has_newline};
 ghost use Rattle.json_lines.specs.Reading.{IsOfSomeLine};
 ghost use Rattle.json_lines.specs.SoFar.{IsReadSoFar};
+ghost use Rattle.json_lines.specs.declared.lines.TheConstants.{CHUNK};
 ghost use Rattle.json_lines.specs.declared.reading.TheConstants.{MAX_INPUT};
 
 use crate::lines::{InputFault, Lines};
@@ -41,7 +42,8 @@ impl LineReader {
 
     /// Whether a whole line is at hand, so that the reader is not asked for the next one.
     pub fn holds_line(&self) -> bool
-        ensures { result ≡ has_newline self.now.lines }
+        ensures holds { result ≡ has_newline self.now.lines }
+        ensures few { length self.now.lines ≤ CHUNK }
     {
         self.lines.holds_line()
     }

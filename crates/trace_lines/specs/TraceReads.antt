@@ -24,6 +24,6 @@ IsTraceSoFar given ends failures remaining first now t r =
     IsReadSoFar given ends failures remaining (taken_line NotJson value_line) first now empty_trace t r
 
 -- the trace of the lines, where the last was taken, or the fault of one
-abbrev pub trace_by : TraceValue → Result Bool TraceFault → Result TraceValue TraceFault
+abbrev pub trace_by : {E : Type 0} → TraceValue → Result Bool E → Result TraceValue E
 trace_by t (Ok more) = Ok t
 trace_by t (Err e) = Err e
