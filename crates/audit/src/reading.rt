@@ -1,6 +1,7 @@
 //! What an audit reads.
 
 ghost use Rattle.std.specs.Prelude.{◌≡◌, ◌≢◌, ◌+◌, ◌<◌, ◌≤◌, List, Option, Ok, true};
+ghost use Rattle.devices.specs.Given.{AreNext};
 ghost use Rattle.evidence_check.specs.Judging.{AreJudged};
 ghost use Rattle.json_lines.specs.declared.reading.TheConstants.{MAX_INPUT};
 ghost use Rattle.trace_lines.specs.TraceReads.{IsTraceSoFar, trace_by};
@@ -69,6 +70,7 @@ pub fn take_line<R: Source>(
     ensures read { result ≢ Ok true → (first : R)
         → IsTraceSoFar R.given R.ends R.failures R.remaining first reader.old builder.old lines.old
         → TraceRead (reads R.given R.ends R.failures R.remaining first reader.new) (trace_by builder.new result) }
+    ensures known { AreNext R.given R.ends R.remaining reader.old reader.new }
 {
     Ok(take_next(lines, reader, builder)?)
 }

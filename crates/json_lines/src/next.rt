@@ -1,6 +1,7 @@
 //! The lines of a reader, one by one.
 
 ghost use Rattle.std.specs.Prelude.{◌≡◌, ◌≢◌, ◌+◌, ◌≤◌, ◌<◌, ◌^◌, [], length, Ok, true, IfOk, IfErr};
+ghost use Rattle.devices.specs.Given.{AreNext};
 ghost use Rattle.json_lines.specs.InputRead.{LinesRead};
 ghost use Rattle.json_lines.specs.Json.{taken_line};
 ghost use Rattle.json_lines.specs.Lines.{has_newline};
@@ -73,6 +74,8 @@ impl LineReader {
             first reader.old start value.old self.old
             → LinesRead R.given R.ends R.failures R.remaining (taken_line T.Cause.not_json T.taken)
             first reader.new start value.new result }
+        // What came is the next of what the reader had left, where that is known.
+        ensures known { AreNext R.given R.ends R.remaining reader.old reader.new }
         // A cause is what some line gave.
         ensures told { IfErr result (IsOfSomeLine (taken_line T.Cause.not_json T.taken)) }
     {

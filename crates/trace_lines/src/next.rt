@@ -1,6 +1,7 @@
 //! The lines of a trace, one by one.
 
 ghost use Rattle.std.specs.Prelude.{◌≡◌, ◌≢◌, ◌+◌, ◌≤◌, ◌<◌, Ok, true};
+ghost use Rattle.devices.specs.Given.{AreNext};
 ghost use Rattle.json_lines.specs.declared.reading.TheConstants.{MAX_INPUT};
 ghost use Rattle.trace_lines.specs.TraceReads.{IsTraceSoFar, TraceRead, trace_by};
 ghost use Rattle.trace_lines.specs.Values.{next_line};
@@ -31,6 +32,8 @@ pub fn take_next<R: Source>(
     ensures read { result ≢ Ok true → (first : R)
         → IsTraceSoFar R.given R.ends R.failures R.remaining first reader.old builder.old lines.old
         → TraceRead R.given R.ends R.failures R.remaining first reader.new (trace_by builder.new result) }
+    // What came is the next of what the reader had left, where that is known.
+    ensures known { AreNext R.given R.ends R.remaining reader.old reader.new }
 {
     match lines.take_next(reader, builder) {
         Ok(more) => Ok(more),

@@ -1,0 +1,61 @@
+//! How far a log is settled.
+
+ghost use Rattle.std.specs.Prelude.{◌≡◌, ◌<◌, ◌≤◌, ◌++◌, ℕ, length, OnOk, string_bytes};
+ghost use Rattle.monitor.specs.Standing.{IsAtEnd, Stands};
+ghost use Rattle.follow.specs.Pieces.{heartbeat_text};
+ghost use Rattle.follow.specs.SoFar.{AreSettledTo, IsThrough};
+
+use monitor::Monitor;
+use std::alloc::AllocError;
+use std::fmt::Write as _;
+use trace_lines::Trace;
+
+/// How far a log is settled: a commit at or above the snapshot of each entry up to there stands in it, so that all that
+/// can be found on these was told.
+#[derive(Clone, Copy, Debug, PartialEq, Eq)]
+pub struct Heartbeat {
+    /// The last line up to which all entries are settled.
+    pub line: u64,
+    /// How many entries stand up to that line.
+    pub entries: u64,
+    /// How many findings were told so far.
+    pub findings: u64,
+    /// How many entries were read that are not settled.
+    pub open: u64,
+}
+
+/// Appends a heartbeat as a line. It is refused only where memory runs out.
+pub(crate) fn push_heartbeat(heartbeat: &Heartbeat, text: &mut String) -> Result<(), AllocError>
+    ensures { OnOk result (string_bytes text.new ≡ string_bytes text.old ++ heartbeat_text heartbeat.now) }
+{
+    let Heartbeat {
+        line,
+        entries,
+        findings,
+        open,
+    } = *heartbeat;
+    writeln!(text, "through line {line}: {entries} entries, {findings} findings, {open} open")?;
+    Ok(())
+}
+
+/// Whether some commit is at or above the timestamp.
+fn is_reached(trace: &Trace, at: u64) -> bool {
+    match trace.chains().commits().last() {
+        Some(last) => at <= *last,
+        None => false,
+    }
+}
+
+/// How many of the entries are settled, one behind the other, where so many were before.
+pub(crate) fn settled_from(trace: &Trace, settled: usize) -> usize
+    requires { AreSettledTo trace.now settled }
+    ensures settled { AreSettledTo trace.now result }
+    ensures next { result < length trace.now.entries → settled ≤ result }
+{
+    let mut n = settled;
+    // each turn passes over an entry, and no entry is passed over twice
+    while n < trace.len() && is_reached(trace, trace.entry(n).snapshot) {
+        n += 1;
+    }
+    n
+}
