@@ -64,4 +64,5 @@ pub use made_audit::audit_made;
 pub use plain::{AuditFault, Verdict, audit_plain, audit_values};
 pub use reading::take_line;
 pub use shared::{LARGEST_SLICE, audit};
+pub use telling::tell;
 pub use touches::history;

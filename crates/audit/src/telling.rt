@@ -12,7 +12,7 @@ use findings::{Finding, report_of};
 use std::alloc::Global;
 
 /// Writes a text, and then has this answer.
-pub(crate) fn tell<V: Drop, W: Sink>(text: &str, answer: V, out: &mut W) -> Result<V, AuditFault>
+pub fn tell<V: Drop, W: Sink>(text: &str, answer: V, out: &mut W) -> Result<V, AuditFault>
     ensures { Told (λ said v. (said ≡ text.now) × (v ≡ answer))
         (writes W.taken W.flushes W.failures W.idle W.contents out.old out.new) result }
 {

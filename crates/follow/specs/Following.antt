@@ -1,11 +1,13 @@
 -- What following a trace comes to.
-use Rattle.std.specs.Prelude.{◌≡◌, ℕ, true, false, List, [], ◌++◌, length, take, Result, Ok, Err, IfOk, IfErr, OnOk}
+use Rattle.std.specs.Prelude.{◌≡◌, ◌⊎◌, ℕ, true, false, List, [], ◌++◌, length, take, Result, Ok, Err, IfOk, IfErr, OnOk}
+use Rattle.std.specs.List.{flat_map}
 use Rattle.trace_lines.specs.Traces.{trace_of}
 use Rattle.trace_lines.specs.Values.{TraceValue}
 use Rattle.trace_lines.specs.declared.cause.Cause.TheVariants as causes
 use Rattle.trace_lines.specs.declared.cause.TraceFault.{TraceFault}
 use Rattle.findings.specs.Headline.{IsTraceRightAndFresh}
-use Rattle.findings.specs.Report.{last_lines}
+use Rattle.findings.specs.Report.{last_lines, line_text}
+use Rattle.findings.specs.declared.finding.Finding.{Finding}
 use Rattle.monitor.specs.Whole.{TellsAll}
 use Rattle.audit.specs.Audit.{RefusesTrace, BlamesOnly, BlamesNoDevice, verdict_of}
 use Rattle.audit.specs.Devices.{Reading, Writing, OfBytes, OfWhole, OfInput, GivesFew, GivesNext}
@@ -18,23 +20,31 @@ use Rattle.audit.specs.declared.plain.AuditFault.TheVariants as faults
 use Rattle.follow.specs.Pieces.{Piece, text_of, told_in}
 use Rattle.follow.specs.SoFar.{IsToldOf}
 
--- The bytes say a trace. Told was what is found on it by evidence that is made, each finding once (`TellsAll`), with
--- heartbeats between; and behind that the report's last lines, of which the verdict is the last.
+-- All of the bytes say a trace, and the end of the text tells what is left behind what was told: together that is what
+-- is found on it by evidence that is made, each finding once (`TellsAll`); and behind it the report's last lines, of
+-- which the verdict is the last.
+abbrev pub Ends : List ℕ → List Finding → List ℕ → Verdict → Type 0
+Ends a told ending v =
+    (t : TraceValue) × (trace_of true a ≡ Ok t) × (rest : List Finding) × TellsAll IsMade t [] (told ++ rest)
+    × (ending ≡ flat_map line_text rest ++ last_lines (told ++ rest) (length t.entries)) × (v ≡ verdict_of (told ++ rest))
+
+-- what was told as the lines came went out, with heartbeats between, and the end of the text
 abbrev pub Follows : List ℕ → List ℕ → List ℕ → Verdict → Type 0
 Follows a old new v =
-    (t : TraceValue) × (trace_of true a ≡ Ok t) × (pieces : List Piece) × TellsAll IsMade t [] (told_in pieces)
-    × (new ≡ old ++ (text_of pieces ++ last_lines (told_in pieces) (length t.entries)))
-    × (v ≡ verdict_of (told_in pieces))
+    (pieces : List Piece) × (ending : List ℕ) × Ends a (told_in pieces) ending v × (new ≡ old ++ (text_of pieces ++ ending))
 
--- Some first bytes of such a text went out, and each finding in it is told of the lines that had come.
-pub record WentOut (came : List ℕ) (old new : List ℕ) : Type 0 where
+-- Some first bytes of such a text went out. Each finding that was told as the lines came is told of the lines so far;
+-- an end was told of the whole trace alone.
+pub record WentOut (came old new : List ℕ) : Type 0 where
   pub pieces : List Piece
+  pub ending : List ℕ
   pub bytes : ℕ
-  pub went : new ≡ old ++ take bytes (text_of pieces)
+  pub went : new ≡ old ++ take bytes (text_of pieces ++ ending)
   pub lines : List ℕ
   pub rest : List ℕ
   pub among : came ≡ lines ++ rest
   pub told : IsToldOf lines (told_in pieces)
+  pub ends : (ending ≡ []) ⊎ ((v : Verdict) × Ends came (told_in pieces) ending v)
 
 -- A trace was followed.
 pub record Followed (trace : Reading) (out : Writing) (result : Result Verdict AuditFault) : Type 0 where

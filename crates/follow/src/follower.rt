@@ -1,5 +1,13 @@
 //! What is told of a log that grows, as the lines of the report.
 
+ghost use Rattle.std.specs.Prelude.{◌≡◌, ◌++◌, [], length, IfOk, IfSome, OnOk, string_bytes};
+ghost use Rattle.trace_lines.specs.Values.{TraceValue};
+ghost use Rattle.audit.specs.Audit.{verdict_of};
+ghost use Rattle.monitor.specs.Standing.{IsAtEnd};
+ghost use Rattle.follow.specs.Pieces.{Piece, piece_text};
+ghost use Rattle.follow.specs.SoFar.{AreSettledTo, IsFollowed, IsThrough, TellsRest};
+
+use crate::heartbeat::{Heartbeat, push_heartbeat, settled_from};
 use audit::{Finds, MakingJudge, Verdict};
 use findings::{Finding, push_last_lines, push_lines};
 use monitor::{Monitor, tell_further};
@@ -14,56 +22,121 @@ pub struct Follower {
     pub monitor: Monitor,
     /// What was told, in the order of telling.
     pub told: Vec<Finding>,
-    // of what was made for entries, to be tried for others
+    /// How many of the first entries are known to be settled.
+    pub settled: usize,
+    /// How many entries were settled at the last heartbeat.
+    pub beaten: usize,
+    // what was made for entries, to be tried for others
     pub finds: Finds,
 }
 
 impl Follower {
     /// Nothing was taken.
-    pub fn new(alloc: Global) -> Follower {
+    pub fn new(alloc: Global) -> Follower
+        ensures followed { (t : TraceValue) → IsFollowed t result }
+        ensures told { result.told.items ≡ [] }
+    {
         Follower {
             alloc,
             monitor: Monitor::new(alloc),
             told: Vec::new(alloc),
+            settled: 0,
+            beaten: 0,
             finds: Finds::new(alloc),
         }
     }
 
-    fn judge<'t>(&mut self, trace: &'t Trace) -> MakingJudge<'t> {
+    fn judge<'t>(&mut self, trace: &'t Trace) -> MakingJudge<'t>
+        ensures trace { result.maker ≡ trace.entry.now }
+        ensures same { (self.new.monitor ≡ self.old.monitor) × (self.new.told ≡ self.old.told)
+            × (self.new.settled ≡ self.old.settled) × (self.new.beaten ≡ self.old.beaten) }
+    {
         let finds = replace(&mut self.finds, Finds::new(self.alloc));
         MakingJudge::new(self.alloc, trace, finds)
     }
 
-    /// Takes all lines of the log that were not taken yet, and gives the lines of the report on what is told there. It
-    /// is refused only where memory runs out; the follower is then no longer of use.
-    pub fn tell(&mut self, trace: &Trace) -> Result<String, AllocError> {
+    /// How far the log is settled, where any entry was settled since the last heartbeat. All its lines were taken, and
+    /// the last is this one.
+    fn heartbeat(&mut self, trace: &Trace, line: u64) -> Option<Heartbeat>
+        requires followed { IsFollowed trace.now self.old }
+        ensures followed { IsFollowed trace.now self.new }
+        ensures same { (self.new.monitor ≡ self.old.monitor) × (self.new.told ≡ self.old.told) }
+        ensures through { IfSome result (λ h. IsThrough trace.now h.line h.entries) }
+        ensures told { IfSome result (λ h. h.findings ≡ length self.old.told.items) }
+    {
+        let judged = trace.len().saturating_sub(self.monitor.waiting.len());
+        if judged <= self.beaten {
+            return None;
+        }
+        self.beaten = judged;
+        self.settled = settled_from(trace, self.settled);
+        Some(Heartbeat {
+            line: last_settled_line(trace, self.settled, line),
+            entries: self.settled as u64,
+            findings: self.told.len() as u64,
+            open: self.monitor.waiting.len() as u64,
+        })
+    }
+
+    /// Takes all lines of the log that were not taken yet, and gives the lines of the report on what is told there; and
+    /// behind them a heartbeat, where the number of the last line is given and any entry was settled. It is refused
+    /// only where memory runs out; the follower is then no longer of use.
+    pub fn tell(&mut self, trace: &Trace, line: Option<u64>) -> Result<String, AllocError>
+        requires { IsFollowed trace.now self.old }
+        ensures followed { OnOk result (IsFollowed trace.now self.new) }
+        ensures all { OnOk result (IsAtEnd trace.now self.new.monitor) }
+        ensures text { IfOk result (λ s. (p : Piece) × (self.new.told.items ≡ self.old.told.items ++ p.told)
+            × (string_bytes s ≡ piece_text p)) }
+    {
         let before = self.told.len();
         let mut judge = self.judge(trace);
         tell_further(trace, &mut self.monitor, &mut judge, &mut self.told)?;
         self.finds = judge.finds;
         let mut text = String::new(self.alloc);
         push_lines(&self.told[before..], &mut text)?;
+        if let Some(line) = line {
+            if let Some(heartbeat) = self.heartbeat(trace, line) {
+                push_heartbeat(&heartbeat, &mut text)?;
+            }
+        }
         Ok(text)
     }
 
-    /// The same at the end of the log: behind what is told at its lines comes what is left, and the last lines of the
-    /// report.
-    pub fn tell_end(&mut self, trace: &Trace) -> Result<String, AllocError> {
-        let mut text = self.tell(trace)?;
+    /// What is left at the end of the log, of which all lines were taken, as the lines of the report; and its last
+    /// lines.
+    pub fn tell_end(&mut self, trace: &Trace) -> Result<String, AllocError>
+        requires followed { IsFollowed trace.now self.old }
+        requires all { IsAtEnd trace.now self.old.monitor }
+        ensures text { IfOk result (λ s. TellsRest trace.now self.old self.new (string_bytes s)) }
+    {
         let before = self.told.len();
         let mut judge = self.judge(trace);
         self.monitor.end(trace, &mut judge, &mut self.told)?;
+        let mut text = String::new(self.alloc);
         push_lines(&self.told[before..], &mut text)?;
         push_last_lines(&self.told, trace.len(), &mut text)?;
         Ok(text)
     }
 
     /// Whether anything was told.
-    pub fn verdict(&self) -> Verdict {
-        if self.told.is_empty() {
-            Verdict::Clean
-        } else {
-            Verdict::Dirty
+    pub fn verdict(&self) -> Verdict
+        ensures { result ≡ verdict_of self.now.told.items }
+    {
+        match self.told.as_slice() {
+            [] => Verdict::Clean,
+            [_, ..] => Verdict::Dirty,
         }
+    }
+}
+
+/// The last line up to which all entries are settled, where so many are, and this is the last line.
+fn last_settled_line(trace: &Trace, settled: usize, line: u64) -> u64
+    requires { AreSettledTo trace.now settled }
+    ensures { IsThrough trace.now result settled }
+{
+    if settled < trace.len() {
+        trace.entry(settled).line.saturating_sub(1)
+    } else {
+        line
     }
 }

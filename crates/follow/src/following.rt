@@ -1,34 +1,39 @@
 //! A log that is followed as it comes.
 
+ghost use Rattle.std.specs.Prelude.{◌≡◌, ◌++◌, [], ◌∷◌, IfErr};
+ghost use Rattle.trace_lines.specs.Placed.{AreInPlace};
+ghost use Rattle.monitor.specs.Standing.{IsAtEnd};
+ghost use Rattle.audit.specs.Audit.{verdict_of};
+ghost use Rattle.audit.specs.Devices.{reads, writes};
+ghost use Rattle.audit.specs.Kinds.{IsOneOf};
+ghost use Rattle.audit.specs.Kinds as kind;
+ghost use Rattle.audit.specs.Parts.{Told};
+ghost use Rattle.follow.specs.Following.{Followed};
+ghost use Rattle.follow.specs.SoFar.{IsFollowed, TellsPiece, TellsRest};
+
 use crate::follower::Follower;
-use audit::{AuditFault, Verdict};
-use devices::{Sink, Source, send};
+use audit::{AuditFault, Verdict, take_line};
+use devices::{Sink, Source};
 use json_lines::LineReader;
 use std::alloc::Global;
-use trace_lines::{TraceBuilder, take_next};
+use trace_lines::TraceBuilder;
+use trace_lines::laws::stand_in_order;
 
-/// Writes a text, and flushes.
-fn write<W: Sink>(text: &str, out: &mut W) -> Result<(), AuditFault> {
-    match send(out, text.as_bytes()) {
-        Ok(()) => Ok(()),
-        Err(unsent) => Err(AuditFault::Write {
-            written: unsent.written,
-        }),
-    }
-}
-
-/// Writes what the log so far lets tell.
+/// Writes what the log so far lets tell, of which the last line is given where a heartbeat is asked for.
 fn tell<W: Sink>(
     log: TraceBuilder,
+    line: Option<u64>,
     follower: &mut Follower,
     out: &mut W,
-) -> Result<TraceBuilder, AuditFault> {
+) -> Result<TraceBuilder, AuditFault>
+    requires { IsFollowed log follower.old }
+    ensures { Told (λ text l. (l ≡ log) × TellsPiece log follower.old follower.new text)
+        (writes W.taken W.flushes W.failures W.idle W.contents out.old out.new) result }
+{
     let paused = log.pause();
-    let text = follower.tell(paused.trace())?;
-    if !text.is_empty() {
-        write(text.as_str(), out)?;
-    }
-    Ok(paused.resume())
+    stand_in_order(paused.trace());
+    let text = follower.tell(paused.trace(), line)?;
+    audit::tell(text.as_str(), paused.resume(), out)
 }
 
 /// Writes what is left at the end of the log, and the last lines.
@@ -36,28 +41,49 @@ fn tell_end<W: Sink>(
     log: TraceBuilder,
     follower: &mut Follower,
     out: &mut W,
-) -> Result<Verdict, AuditFault> {
-    let trace = log.finish();
-    let text = follower.tell_end(&trace)?;
-    write(text.as_str(), out)?;
-    Ok(follower.verdict())
+) -> Result<Verdict, AuditFault>
+    requires followed { IsFollowed log follower.old }
+    requires all { IsAtEnd log follower.old.monitor }
+    ensures { Told (λ text v. TellsRest log follower.old follower.new text × (v ≡ verdict_of follower.new.told.items))
+        (writes W.taken W.flushes W.failures W.idle W.contents out.old out.new) result }
+{
+    let paused = log.pause();
+    let text = follower.tell_end(paused.trace())?;
+    drop(paused);
+    audit::tell(text.as_str(), follower.verdict(), out)
 }
 
-/// Follows a trace as it comes: before the reader is asked for more, all that the whole lines so far let tell is
-/// written and flushed.
+/// Follows a trace as it comes. Before the reader is asked for more, all that the whole lines so far let tell is
+/// written and flushed: what rests on an entry and the lines before it when its line has come; and the other findings
+/// on it as soon as a commit at or above its snapshot stands in the log, so that nothing can change them. They are the
+/// lines of the report of [`audit_made`](audit::audit_made), in another order, and behind the last line come what is
+/// left and the report's last lines.
+///
+/// With heartbeats a line says behind what was told how far all entries are settled, where any was settled.
+///
+/// A trace is refused as by [`audit_made`](audit::audit_made), and what was told before stands. Under `Write` so many
+/// bytes of what was to be written last went out.
 pub fn follow<A: Source, W: Sink>(
     alloc: Global,
     trace: &mut A,
     out: &mut W,
-) -> Result<Verdict, AuditFault> {
+    heartbeats: bool,
+) -> Result<Verdict, AuditFault>
+    ensures followed { Followed (reads A.given A.ends A.failures A.remaining trace.old trace.new)
+        (writes W.taken W.flushes W.failures W.idle W.contents out.old out.new) result }
+    ensures kinds { IfErr result (IsOneOf (kind.trace ∷ kind.write ∷ kind.memory ∷ [])) }
+{
     let mut lines = LineReader::new(alloc)?;
     let mut log = TraceBuilder::new(alloc);
     let mut follower = Follower::new(alloc);
     // bounded by the room for an input, of which each line takes some
-    while take_next(&mut lines, trace, &mut log)? {
+    while take_line(&mut lines, trace, &mut log)? {
         if !lines.holds_line() {
-            log = tell(log, &mut follower, out)?;
+            let line = heartbeats.then_some(lines.number - 1);
+            log = tell(log, line, &mut follower, out)?;
         }
     }
+    let line = heartbeats.then_some(lines.number);
+    let log = tell(log, line, &mut follower, out)?;
     tell_end(log, &mut follower, out)
 }

@@ -1,11 +1,9 @@
 //! How far a log is settled.
 
-ghost use Rattle.std.specs.Prelude.{◌≡◌, ◌<◌, ◌≤◌, ◌++◌, ℕ, length, OnOk, string_bytes};
-ghost use Rattle.monitor.specs.Standing.{IsAtEnd, Stands};
+ghost use Rattle.std.specs.Prelude.{◌≡◌, ◌≤◌, ◌++◌, length, OnOk, string_bytes};
 ghost use Rattle.follow.specs.Pieces.{heartbeat_text};
-ghost use Rattle.follow.specs.SoFar.{AreSettledTo, IsThrough};
+ghost use Rattle.follow.specs.SoFar.{AreSettledTo};
 
-use monitor::Monitor;
 use std::alloc::AllocError;
 use std::fmt::Write as _;
 use trace_lines::Trace;
@@ -48,9 +46,10 @@ fn is_reached(trace: &Trace, at: u64) -> bool {
 
 /// How many of the entries are settled, one behind the other, where so many were before.
 pub(crate) fn settled_from(trace: &Trace, settled: usize) -> usize
-    requires { AreSettledTo trace.now settled }
+    requires settled { AreSettledTo trace.now settled }
+    requires within { settled ≤ length trace.now.entries }
     ensures settled { AreSettledTo trace.now result }
-    ensures next { result < length trace.now.entries → settled ≤ result }
+    ensures within { result ≤ length trace.now.entries }
 {
     let mut n = settled;
     // each turn passes over an entry, and no entry is passed over twice

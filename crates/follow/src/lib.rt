@@ -1,8 +1,25 @@
-//! A log that is followed as it comes.
+//! A trace that is audited as it comes: each finding is told as soon as nothing can change it.
+//!
+//! [`follow`] reads the lines of a trace from a reader, and before it asks the reader for more it writes the lines of the
+//! report that the log so far lets tell, by evidence that it makes. A [`Follower`] does so for a log that is held: it
+//! takes the lines that were not taken yet, by a monitor (`monitor`), and gives the text. Contracts see how much was
+//! followed as `IsFollowed` (`specs/SoFar.antt`), what was written as pieces of findings and heartbeats
+//! (`specs/Pieces.antt`), and a whole run as `Followed` (`specs/Following.antt`).
+//!
+//! Callers may rely on this: what was told as the lines came, and what is told at the end, is together what is found on
+//! the trace, each finding once; a clean verdict is that of an audit. Under any fault what went out before is told of
+//! the lines that had come (`IsToldOf`), and so stands among the findings on each longer log
+//! (`follow_laws::laws::told_is_true`). Up to the line that a heartbeat names all entries are settled (`IsThrough`).
+//!
+//! ```text
+//! let verdict = follow(alloc, &mut trace, &mut out, true)?;
+//! ```
 #![tactic(auto)]
 
 mod follower;
 mod following;
+mod heartbeat;
 
 pub use follower::Follower;
 pub use following::follow;
+pub use heartbeat::Heartbeat;

@@ -11,6 +11,7 @@ use Rattle.audit.specs.History.{TellsHistory}
 use Rattle.audit.specs.Made.{MakesRecords}
 use Rattle.audit.specs.MadeAudit.{AuditsMade, MissesNoWrongReply, WhateverIsMade}
 use Rattle.audit.specs.declared.plain.Verdict.{Verdict}
+use Rattle.follow.specs.Following.{Follows}
 use Rattle.audit.specs.declared.plain.Verdict.TheVariants.{Clean, Dirty}
 use Rattle.new_enemy.specs.Opened.{file_of}
 use Rattle.new_enemy.specs.Run.{SayNoTrace, SayNoAudit, OfEveryInput}
@@ -50,6 +51,19 @@ IsCleanAuditMade trace old new = IsAuditMade Clean IsTraceRightAndFresh trace ol
 abbrev pub IsDirtyAuditMade : {F : Type 0} → Counted F → List ℕ → List ℕ → Type 0
 IsDirtyAuditMade trace old new = IsAuditMade Dirty (λ a. ⊤) trace old new
 
+-- All that the file gave, to its end, is a trace, and what a writer took is what was told of it as it came, with this
+-- verdict: what is found on it by evidence that was made, each finding once.
+abbrev pub IsFollowing : {F : Type 0} → Verdict → (List ℕ → Type 0) → Counted F → List ℕ → List ℕ → Type 0
+IsFollowing v OfTrace trace old new =
+    (stops_of trace ≡ 1) × Follows (moved_by trace) old new v × OfTrace (moved_by trace)
+
+-- and the trace is right and fresh
+abbrev pub IsCleanFollowing : {F : Type 0} → Counted F → List ℕ → List ℕ → Type 0
+IsCleanFollowing trace old new = IsFollowing Clean IsTraceRightAndFresh trace old new
+
+abbrev pub IsDirtyFollowing : {F : Type 0} → Counted F → List ℕ → List ℕ → Type 0
+IsDirtyFollowing trace old new = IsFollowing Dirty (λ a. ⊤) trace old new
+
 -- all that the file gave, to its end, is a trace, and what a writer took is the tuple's history in it
 abbrev pub IsToldHistory : {F : Type 0} → TupleValue → Counted F → List ℕ → List ℕ → Type 0
 IsToldHistory tuple trace old new = (stops_of trace ≡ 1) × ((n : ℕ) × TellsHistory (moved_by trace) tuple old new n)
@@ -72,6 +86,7 @@ file_failures (ran.Audited trace evidence) = failures_of (file_of trace) + failu
 file_failures (ran.AuditedAlone trace) = failures_of (file_of trace)
 file_failures (ran.Made trace) = failures_of (file_of trace)
 file_failures (ran.Told trace) = failures_of (file_of trace)
+file_failures (ran.Followed trace) = failures_of (file_of trace)
 file_failures ran.Joined = 0
 file_failures (ran.Shown text) = 0
 file_failures ran.Nothing = 0
@@ -82,6 +97,7 @@ OfFiles (ran.Audited trace evidence) P = P (file_of trace) × P (file_of evidenc
 OfFiles (ran.AuditedAlone trace) P = P (file_of trace)
 OfFiles (ran.Made trace) P = P (file_of trace)
 OfFiles (ran.Told trace) P = P (file_of trace)
+OfFiles (ran.Followed trace) P = P (file_of trace)
 OfFiles ran.Joined P = ⊤
 OfFiles (ran.Shown text) P = ⊤
 OfFiles ran.Nothing P = ⊤

@@ -1,5 +1,5 @@
 -- What a run says by its status: of what it read, and of the writer that its answer goes to.
-use Rattle.std.specs.Prelude.{◌≡◌, ◌≢◌, ◌⊎◌, ℕ, ◌+◌, ◌<◌, ◌≤◌, List, Some, length}
+use Rattle.std.specs.Prelude.{◌≡◌, ◌≢◌, ◌⊎◌, ℕ, ◌+◌, ◌<◌, ◌≤◌, false, List, Some, length}
 use Rattle.devices.specs.Devices.{moved_by}
 use Rattle.json_lines.specs.declared.lines.TheConstants.{CHUNK}
 use Rattle.json_lines.specs.declared.reading.TheConstants.{MAX_INPUT}
@@ -11,7 +11,7 @@ use Rattle.findings.specs.EachEntry.{TellsOfEachEntry}
 use Rattle.findings.specs.Headline.{IsTraceRightAndFresh}
 use Rattle.findings.specs.WrongReplies.{NamesOnlyWrongReplies}
 use Rattle.new_enemy.specs.Files.{OfFiles, file_failures}
-use Rattle.new_enemy.specs.Outcomes.{HasSucceeded, HasFoundDirty, HasRefused, HasReadNothing, SaysOfDevices}
+use Rattle.new_enemy.specs.Outcomes.{HasSucceeded, HasFoundDirty, HasRefused, HasReadNothing, SaysOfDevices, is_followed}
 use Rattle.new_enemy.specs.Run.{IsRefused}
 use Rattle.new_enemy.specs.Words.{IsOfCommand}
 use Rattle.new_enemy.specs.declared.run.Ran.{Ran}
@@ -64,7 +64,7 @@ pub record SaysOfRun {F : Type 0} (input : Reading) (out : Writing) (status : �
   -- the report on all that was read went out, its verdict is clean, and the trace is right and fresh
   pub clean : status ≡ 0 → HasSucceeded (IsCleanJoined input out) out.before.taken out.after.taken run
   pub dirty : status ≡ 1 → HasFoundDirty (IsDirtyJoined input out) out.before.taken out.after.taken run
-  pub flushed : status ≤ 1 → out.after.flushes ≡ out.before.flushes + 1
+  pub flushed : status ≤ 1 → is_followed run ≡ false → out.after.flushes ≡ out.before.flushes + 1
   -- of every input that begins with the bytes that came
   pub refused : status ≡ 2 → HasRefused (OfInput input IsRefused) run
   pub used : status ≡ 3 → HasReadNothing run
@@ -72,7 +72,8 @@ pub record SaysOfRun {F : Type 0} (input : Reading) (out : Writing) (status : �
   -- none did
   pub device : status ≡ 5 → run ≢ ran.Nothing → (ReaderFailed input ⊎ (0 < file_failures run)) ⊎ WriterFailed out
   pub kept : status ≢ 5 → ReaderNeverFailed input × (file_failures run ≡ 0) × WriterNeverFailed out
-  pub unwritten : 2 ≤ status → status ≤ 4 → TookNothing out
+  -- of what is followed what was told before stands
+  pub unwritten : 2 ≤ status → status ≤ 4 → is_followed run ≡ false → TookNothing out
   -- also of input that never ends
   pub most : GivesFew input × OfFiles run (λ file. length (moved_by file) ≤ MAX_INPUT + CHUNK)
   -- of devices in memory: what came is the next of what the reader had left, and all of it where the reader was at its

@@ -39,6 +39,12 @@ RanMake t status (ran.Made trace) = path_of trace ≡ t
 RanMake t status ran.Nothing = IsHindered status
 RanMake t status _ = ⊥
 
+-- a trace was followed
+abbrev pub RanFollow : {F : Type 0} → List ℕ → ℕ → Ran F → Type 0
+RanFollow t status (ran.Followed trace) = path_of trace ≡ t
+RanFollow t status ran.Nothing = IsHindered status
+RanFollow t status _ = ⊥
+
 -- the tuple's history went out, where the status is 0
 abbrev pub RanHistoryOf : {F : Type 0} → List ℕ → TupleValue → (old new : List ℕ) → ℕ → Ran F → Type 0
 RanHistoryOf t tuple old new status (ran.Told trace) =
@@ -59,6 +65,7 @@ RanAsked (asked.audits t (Some e) workers slice early) old new status run = RanA
 RanAsked (asked.audits t None workers slice early) old new status run = RanAuditAlone t workers slice status run
 RanAsked (asked.makes t list) old new status run = RanMake t status run
 RanAsked (asked.tells t u) old new status run = RanHistory t u old new status run
+RanAsked (asked.follows t heartbeat) old new status run = RanFollow t status run
 
 -- something was read, or was to be
 abbrev pub HasRead : {F : Type 0} → Ran F → Type 0
@@ -78,6 +85,7 @@ IsOfCommand word (ran.Audited trace evidence) = word ≡ Some (codes "audit")
 IsOfCommand word (ran.AuditedAlone trace) = word ≡ Some (codes "audit")
 IsOfCommand word (ran.Made trace) = word ≡ Some (codes "make")
 IsOfCommand word (ran.Told trace) = word ≡ Some (codes "history")
+IsOfCommand word (ran.Followed trace) = word ≡ Some (codes "follow")
 IsOfCommand word (ran.Shown text) = ⊤
 IsOfCommand word ran.Nothing = ⊤
 
@@ -91,6 +99,9 @@ pub record IsAsked {F : Type 0} (words : List (List ℕ)) (old new : List ℕ) (
   pub make : (t : List ℕ) → words ≡ codes "make" ∷ t ∷ [] → is_plain_word t ≡ true → RanMake t status run
   pub history : (t u : List ℕ) → words ≡ codes "history" ∷ t ∷ u ∷ [] → is_plain_word t ≡ true → is_plain_word u ≡ true
       → RanHistory t u old new status run
+  pub follow : (t : List ℕ) → words ≡ codes "follow" ∷ t ∷ [] → is_plain_word t ≡ true → RanFollow t status run
+  -- without a word more it follows standard input
+  pub follow_input : words ≡ codes "follow" ∷ [] → RanFollow (codes "/dev/stdin") status run
   -- of all words that clap takes, whatever their number: what they write is what is run
   pub taken : AreTaken words → (a : Asked) → Write words a → RanAsked a old new status run
   -- a text is shown in its place only where help or the version is asked for

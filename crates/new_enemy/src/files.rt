@@ -10,13 +10,14 @@ ghost use Rattle.audit.specs.declared.plain.AuditFault.TheVariants as faults;
 ghost use Rattle.new_enemy.specs.Opened.{IsUnread, path_of};
 ghost use Rattle.new_enemy.specs.Run.{IsStatusDone};
 ghost use Rattle.new_enemy.specs.Runs.{RunsFiles};
-ghost use Rattle.new_enemy.specs.Words.{RanAudit, RanAuditAlone, RanHistoryOf, RanMake};
+ghost use Rattle.new_enemy.specs.Words.{RanAudit, RanAuditAlone, RanFollow, RanHistoryOf, RanMake};
 
 use crate::opened::Opened;
 use crate::run::{Done, Ran};
 use crate::status::{fail, status_with, tell_given_up};
 use audit::{AuditFault, Verdict, audit, audit_early, audit_made, history, make_records_listing};
 use devices::{Sink, Source};
+use follow::follow;
 use std::alloc::Global;
 use std::io::Read;
 use std::sync::Wait;
@@ -122,6 +123,29 @@ pub fn run_audit_made<F: Read, W: Sink, E: Sink, P: Threads + Wait + Sync>(
     Done {
         status: status_with(answer, err),
         read: Ran::AuditedAlone(trace),
+    }
+}
+
+/// Follows a trace as it comes, writes what is found to `out` as soon as it can be told, and hands the trace's file back
+/// with what it gave. A fault is told to `err` in one line.
+pub fn run_follow<F: Read, W: Sink, E: Sink>(
+    alloc: Global,
+    mut trace: Opened<F>,
+    heartbeats: bool,
+    out: &mut W,
+    err: &mut E,
+) -> Done<F>
+    requires { IsUnread trace }
+    // Status 0 says that all that the trace's file gave, to its end, is a trace that is right and fresh, and that what
+    // went out is what was told of it.
+    ensures runs { RunsFiles (codes "follow")
+        (writes W.taken W.flushes W.failures W.idle W.contents out.old out.new) result.status result.read }
+    ensures ran { RanFollow (path_of trace) result.status result.read }
+{
+    let answer = follow(alloc, &mut trace.file, out, heartbeats);
+    Done {
+        status: status_with(answer, err),
+        read: Ran::Followed(trace),
     }
 }
 

@@ -9,13 +9,13 @@ ghost use Rattle.audit.specs.Devices.{reads, writes};
 ghost use Rattle.audit.specs.Shared.{are_within_limits};
 ghost use Rattle.new_enemy.specs.Files.{OfFiles, file_failures};
 ghost use Rattle.new_enemy.specs.Opened.{IsUnread, file_of, path_of};
-ghost use Rattle.new_enemy.specs.Outcomes.{HasSucceeded, HasFoundDirty, HasRefused, HasReadNothing};
+ghost use Rattle.new_enemy.specs.Outcomes.{HasSucceeded, HasFoundDirty, HasRefused, HasReadNothing, is_followed};
 ghost use Rattle.new_enemy.specs.Run.{IsRefused, OfEveryInput, IsCleanRun, IsDirtyRun};
 ghost use Rattle.new_enemy.specs.Runs.{RunsFiles, SaysOfRun};
-ghost use Rattle.new_enemy.specs.Words.{HasRead, IsAsked, IsOfCommand, is_shown, RanAsked, RanAudit, RanAuditAlone, RanMake, RanHistory};
+ghost use Rattle.new_enemy.specs.Words.{HasRead, IsAsked, IsOfCommand, is_shown, RanAsked, RanAudit, RanAuditAlone, RanFollow, RanMake, RanHistory};
 ghost use Rattle.new_enemy.specs.declared.run.Ran.TheVariants as ran;
 
-use crate::files::{Sharing, run_audit, run_audit_made, run_history, run_make};
+use crate::files::{Sharing, run_audit, run_audit_made, run_follow, run_history, run_make};
 use crate::joined::run_joined;
 use crate::opened::{Opened, open};
 use crate::status::{tell, tell_path, tell_tuple};
@@ -42,6 +42,8 @@ pub enum Ran<F> {
     Made(Opened<F>),
     /// The trace of a tuple's history.
     Told(Opened<F>),
+    /// The trace that was followed.
+    Followed(Opened<F>),
     /// Nothing: this text of help or of the version went out.
     Shown(String),
     /// No file, or not all that the command names.
@@ -168,6 +170,25 @@ fn history_in_path<W: Sink, E: Sink, P: Files>(
     run_history(alloc, trace, &tuple, out, err)
 }
 
+/// The trace of a path, as it comes.
+fn follow_path<W: Sink, E: Sink, P: Files>(
+    rt: &P,
+    alloc: Global,
+    trace: &str,
+    heartbeats: bool,
+    out: &mut W,
+    err: &mut E,
+) -> Done<P::File>
+    ensures runs { RunsFiles (codes "follow")
+        (writes W.taken W.flushes W.failures W.idle W.contents out.old out.new) result.status result.read }
+    ensures ran { RanFollow trace.now result.status result.read }
+{
+    let Some(trace) = open_or_tell(rt, trace, err) else {
+        return Done::nothing(5);
+    };
+    run_follow(alloc, trace, heartbeats, out, err)
+}
+
 /// Runs what is asked for.
 fn run_request<R: Source, W: Sink, E: Sink, P: Files + Threads + Wait + Sync>(
     rt: &P,
@@ -204,6 +225,7 @@ fn run_request<R: Source, W: Sink, E: Sink, P: Files + Threads + Wait + Sync>(
         }
         Request::Make { trace, list } => make_for_path(rt, alloc, trace, list, out, err),
         Request::History { trace, tuple } => history_in_path(rt, alloc, trace, tuple, out, err),
+        Request::Follow { trace, heartbeat } => follow_path(rt, alloc, trace, heartbeat, out, err),
     }
 }
 
@@ -307,7 +329,9 @@ pub fn run_on<R: Read, W: Write, E: Write, P: Files + Threads + Wait + Sync>(
     ensures kept { result.status ≢ 5 → (failures_of result.input ≡ 0) × (file_failures result.read ≡ 0)
         × (failures_of result.out ≡ 0) × (stops_of result.out ≡ 0) }
     ensures unread { result.read ≢ ran.Joined → (moved_by result.input ≡ []) × (failures_of result.input ≡ 0) }
-    ensures unwritten { 2 ≤ result.status → result.status ≤ 4 → moved_by result.out ≡ [] }
+    // Of what is followed what was told before stands.
+    ensures unwritten { 2 ≤ result.status → result.status ≤ 4 → is_followed result.read ≡ false
+        → moved_by result.out ≡ [] }
     ensures most { (length (moved_by result.input) ≤ MAX_INPUT + CHUNK)
         × OfFiles result.read (λ file. length (moved_by file) ≤ MAX_INPUT + CHUNK) }
     ensures statuses { result.status ≤ 5 }
