@@ -1,7 +1,10 @@
 //! A log that is followed as it comes.
 
-ghost use Rattle.std.specs.Prelude.{◌≡◌, ◌++◌, [], ◌∷◌, IfErr};
+ghost use Rattle.std.specs.Prelude.{◌≡◌, [], ◌∷◌, List, Option, IfErr};
 ghost use Rattle.trace_lines.specs.Placed.{AreInPlace};
+ghost use Rattle.evidence_check.specs.Steps.{StepValue};
+ghost use Rattle.findings.specs.Findings.{findings_of};
+ghost use Rattle.findings.specs.Headline.{IsRightAndFresh};
 ghost use Rattle.monitor.specs.Standing.{IsAtEnd};
 ghost use Rattle.audit.specs.Audit.{verdict_of};
 ghost use Rattle.audit.specs.Devices.{reads, writes};
@@ -14,6 +17,7 @@ ghost use Rattle.follow.specs.SoFar.{IsFollowed, TellsPiece, TellsRest};
 use crate::follower::Follower;
 use audit::{AuditFault, Verdict, take_line};
 use devices::{Sink, Source};
+use findings::laws::right_and_fresh_without_findings;
 use json_lines::LineReader;
 use std::alloc::Global;
 use trace_lines::TraceBuilder;
@@ -26,7 +30,7 @@ fn tell<W: Sink>(
     follower: &mut Follower,
     out: &mut W,
 ) -> Result<TraceBuilder, AuditFault>
-    requires { IsFollowed log follower.old }
+    requires { AreInPlace log → IsFollowed log follower.old }
     ensures { Told (λ text l. (l ≡ log) × TellsPiece log follower.old follower.new text)
         (writes W.taken W.flushes W.failures W.idle W.contents out.old out.new) result }
 {
@@ -44,10 +48,13 @@ fn tell_end<W: Sink>(
 ) -> Result<Verdict, AuditFault>
     requires followed { IsFollowed log follower.old }
     requires all { IsAtEnd log follower.old.monitor }
-    ensures { Told (λ text v. TellsRest log follower.old follower.new text × (v ≡ verdict_of follower.new.told.items))
+    ensures told { Told (λ text v. TellsRest log follower.old follower.new text × (v ≡ verdict_of follower.new.told.items))
         (writes W.taken W.flushes W.failures W.idle W.contents out.old out.new) result }
+    // Where nothing was found, whoever made the evidence.
+    ensures right { (evidence : List (Option (List StepValue))) → findings_of log evidence ≡ [] → IsRightAndFresh log }
 {
     let paused = log.pause();
+    right_and_fresh_without_findings(paused.trace());
     let text = follower.tell_end(paused.trace())?;
     drop(paused);
     audit::tell(text.as_str(), follower.verdict(), out)

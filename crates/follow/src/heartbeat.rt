@@ -32,7 +32,10 @@ pub(crate) fn push_heartbeat(heartbeat: &Heartbeat, text: &mut String) -> Result
         findings,
         open,
     } = *heartbeat;
-    writeln!(text, "through line {line}: {entries} entries, {findings} findings, {open} open")?;
+    writeln!(
+        text,
+        "through line {line}: {entries} entries, {findings} findings, {open} open"
+    )?;
     Ok(())
 }
 

@@ -1,4 +1,4 @@
-use Rattle.std.proofs.Common.{refl}
+use Rattle.std.proofs.Common.{◌≡◌, Ok, true, ap, refl}
 use Rattle.trace_lines.specs.Values.{empty_trace}
 use Rattle.trace_lines.proofs.TraceTold.{trace_came, trace_refused}
 use Rattle.trace_lines.proofs.next.take_next.Goals as goal
@@ -6,7 +6,8 @@ use Rattle.trace_lines.proofs.next.take_next.Goals as goal
 pub returns-in-Ok-clause-read : goal.returns-in-Ok-clause-read
 returns-in-Ok-clause-read g c ended first so_far =
     trace_came g.R.Source.given g.R.Source.ends g.R.Source.failures g.R.Read.remaining first c.take_next.new.reader
-    empty_trace c.take_next.new.value refl c.in-Ok.more (c.in-Ok.ensures.read ended first empty_trace so_far)
+    empty_trace c.take_next.new.value refl c.in-Ok.more (c.in-Ok.ensures.read (λ is.
+    let same : c.in-Ok.more ≡ true = cc (is) in ended (ap Ok same)) first empty_trace so_far)
 
 pub returns-in-Err-clause-read : goal.returns-in-Err-clause-read
 returns-in-Err-clause-read g c ended first so_far =

@@ -1,0 +1,361 @@
+-- A run that follows a trace, from its first line to its end.
+use Rattle.std.proofs.Common.{◌≡◌, ◌≢◌, ◌⊎◌, inl, inr, ℕ, ◌+◌, ◌<◌, ◌≤◌, ◌^◌, Bool, true, false, List, [], ◌∷◌, ◌++◌, length, take, Option, Result, Ok, Err, refl, sym, ◌∙◌, ap, subst, arith, append_assoc, append-nil, length-append, eqb}
+use Rattle.std.specs.Prelude.{IfOk, IfErr, OnOk, IsPermutation, sum_by}
+use Rattle.std.specs.List.{flat_map}
+use Rattle.std.proofs.Math.Seq.{take-append_seam, take-append-add}
+use Rattle.std.proofs.lemmas.Grind.{flat_map-append}
+use Rattle.std.proofs.lemmas.List.{append_cancel_left}
+use Rattle.std.proofs.lemmas.List.Sorted.{sum_by-IsPermutation}
+use Rattle.std.proofs.lemmas.List.Splits.{length-slice_split}
+use Rattle.devices.specs.Given.{AreNext, StandBehind}
+use Rattle.devices.proofs.Given.{behind-trans, next-refl}
+use Rattle.json_lines.specs.Reading.{parts}
+use Rattle.json_lines.specs.declared.lines.TheConstants.{CHUNK}
+use Rattle.json_lines.specs.declared.next.LineReader.{LineReader}
+use Rattle.trace_lines.specs.Placed.{AreInPlace}
+use Rattle.trace_lines.specs.TraceReads.{IsTraceSoFar}
+use Rattle.trace_lines.specs.Traces.{trace_of}
+use Rattle.trace_lines.specs.Values.{TraceValue, empty_trace}
+use Rattle.trace_lines.specs.declared.cause.Cause.TheVariants as causes
+use Rattle.trace_lines.specs.declared.cause.TraceFault.{TraceFault}
+use Rattle.evidence_check.specs.Steps.{StepValue}
+use Rattle.findings.specs.Findings.{findings_of}
+use Rattle.findings.specs.Headline.{IsRightAndFresh, IsTraceRightAndFresh}
+use Rattle.findings.specs.Report.{last_lines, line_text}
+use Rattle.findings.specs.declared.finding.Finding.{Finding}
+use Rattle.monitor.specs.Standing.{IsAtEnd}
+use Rattle.monitor.specs.Whole.{TellsAll}
+use Rattle.audit.specs.Audit.{BlamesNoDevice, BlamesOnly, IsNotWrite, IsWrite, verdict_of}
+use Rattle.audit.specs.Devices.{Reading, Writing, Writer, reads, writes, writer, OfBytes, OfWhole, GivesFew, GivesNext, ReaderFailed, ReaderNeverFailed, WriterFailed, WriterNeverFailed, StandsBehind}
+use Rattle.audit.specs.Kinds.{IsOneOf}
+use Rattle.audit.specs.Kinds as kind
+use Rattle.audit.specs.Made.{IsMade}
+use Rattle.audit.specs.Parts.{Told, TraceRead}
+use Rattle.audit.specs.declared.plain.Verdict.{Verdict}
+use Rattle.audit.specs.declared.plain.Verdict.TheVariants.{Clean, Dirty}
+use Rattle.audit.specs.declared.plain.AuditFault.{AuditFault}
+use Rattle.audit.specs.declared.plain.AuditFault.TheVariants as faults
+use Rattle.audit.proofs.Answering.{headline_by_bytes}
+use Rattle.follow.specs.Following.{Ends, Followed, Follows, WentOut}
+use Rattle.follow.specs.Pieces.{Piece, piece_text, text_of, told_in}
+use Rattle.follow.specs.SoFar.{IsFollowed, IsToldOf, TellsPiece, TellsRest}
+use Rattle.follow.specs.declared.follower.Follower.{Follower}
+use Rattle.follow.proofs.GrownLemmas.{followed_longer, said_lines, told_of_lines}
+
+-- ---- the lines so far grow
+
+-- of two lists with which one begins, one begins with the other
+prefix : (xs ys us vs : List ℕ) → xs ++ ys ≡ us ++ vs → ((d : List ℕ) × (us ≡ xs ++ d)) ⊎ ((d : List ℕ) × (xs ≡ us ++ d))
+prefix [] ys us vs h = inl (us, refl)
+prefix (x ∷ xs) ys [] vs h = inr (x ∷ xs, refl)
+prefix (x ∷ xs) ys (u ∷ us) vs h =
+    let head : x ≡ u = cc in
+    let tail : xs ++ ys ≡ us ++ vs = cc in
+    elim (prefix xs ys us vs tail) [
+      | inl (d, is) ↦ inl (d, rw (head, is) refl)
+      | inr (d, is) ↦ inr (d, rw (head, is) refl)
+    ]
+
+module _ {R : Type 0} (given : R → List ℕ) (ends failures : R → ℕ) (remaining : R → Option (List ℕ)) (first : R) where
+  -- what was used grows by a line
+  pub used_grows : (old new : R) (t u : TraceValue) (r s : LineReader)
+      → (so_far : IsTraceSoFar given ends failures remaining first old t r)
+      → (further : IsTraceSoFar given ends failures remaining first new u s) → s.number ≡ r.number + 1
+      → AreNext given ends remaining old new → (line : List ℕ) × (further.used ≡ so_far.used ++ line)
+  used_grows old new t u r s so_far further next known =
+      let came = known.0 in
+      let same : so_far.used ++ (r.lines ++ came) ≡ further.used ++ s.lines =
+      append_cancel_left (given first) (so_far.used ++ (r.lines ++ came)) (further.used ++ s.lines)
+      (sym (append_assoc (given first) so_far.used (r.lines ++ came))
+      ∙ sym (append_assoc (given first ++ so_far.used) r.lines came)
+      ∙ ap (λ (l : List ℕ). l ++ came) (sym so_far.gave) ∙ sym known.1 ∙ further.gave
+      ∙ append_assoc (given first) further.used s.lines) in
+      elim (prefix so_far.used (r.lines ++ came) further.used s.lines same) [
+        | inl longer ↦ longer
+        | inr (d, is) ↦
+            let one = so_far.follows.counted [] in
+            let two = further.follows.counted d in
+            let alike = ap (λ (l : List ℕ). length (parts l)) (append-nil so_far.used ∙ is) in
+            let none : length (parts []) ≡ 1 = refl in
+            let some = length-slice_split (λ b. eqb b 10) d in
+            absurd (omega (arith, one, two, alike, next, none, some))
+      ]
+
+-- ---- what was told and written of the lines so far
+
+pub record IsRunSoFar (used start taken : List ℕ) (f : Follower) : Type 0 where
+  pub pieces : List Piece
+  pub same : f.told.items ≡ told_in pieces
+  pub went : taken ≡ start ++ text_of pieces
+  pub lines : List ℕ
+  pub rest : List ℕ
+  pub among : used ≡ lines ++ rest
+  pub told : IsToldOf lines (told_in pieces)
+  pub longer : (u : TraceValue) (more : List ℕ) → trace_of true (used ++ more) ≡ Ok u → AreInPlace u → IsFollowed u f
+
+pub run_first : (f : Follower) (start : List ℕ) → f.told.items ≡ [] → ((t : TraceValue) → IsFollowed t f)
+    → IsToldOf [] [] → IsRunSoFar [] start start f
+run_first f start none followed told = record {
+  pieces = [];
+  same = none;
+  went = sym (append-nil start);
+  lines = [];
+  rest = [];
+  among = refl;
+  told = told;
+  longer = λ u more is placed. followed u;
+}
+
+-- a line was taken
+pub run_line : (used further line start taken : List ℕ) (f : Follower) → further ≡ used ++ line
+    → IsRunSoFar used start taken f → IsRunSoFar further start taken f
+run_line used further line start taken f is run = record {
+  pieces = run.pieces;
+  same = run.same;
+  went = run.went;
+  lines = run.lines;
+  rest = run.rest ++ line;
+  among = is ∙ ap (λ (l : List ℕ). l ++ line) run.among ∙ append_assoc run.lines run.rest line;
+  told = run.told;
+  longer = λ u more said placed. run.longer u (line ++ more)
+      (ap (trace_of true) (sym (append_assoc used line more) ∙ ap (λ (l : List ℕ). l ++ more) (sym is)) ∙ said) placed;
+}
+
+told_more : (pieces : List Piece) (p : Piece) → told_in (pieces ++ p ∷ []) ≡ told_in pieces ++ p.told
+told_more pieces p = flat_map-append (λ (q : Piece). q.told) pieces (p ∷ [])
+    ∙ ap (λ (fs : List Finding). told_in pieces ++ fs) (append-nil p.told)
+
+text_more : (pieces : List Piece) (p : Piece) → text_of (pieces ++ p ∷ []) ≡ text_of pieces ++ piece_text p
+text_more pieces p = flat_map-append piece_text pieces (p ∷ [])
+    ∙ ap (λ (l : List ℕ). text_of pieces ++ l) (append-nil (piece_text p))
+
+-- what the lines let tell is told
+module _ (used start taken : List ℕ) (f g : Follower) (run : IsRunSoFar used start taken f) (t : TraceValue)
+    (said : trace_of true used ≡ Ok t) (text : List ℕ) (tells : TellsPiece t f g text) where
+  told_now : g.told.items ≡ told_in (run.pieces ++ tells.piece ∷ [])
+  told_now = tells.behind ∙ ap (λ (fs : List Finding). fs ++ tells.piece.told) run.same
+      ∙ sym (told_more run.pieces tells.piece)
+
+  told_here : IsToldOf used (told_in (run.pieces ++ tells.piece ∷ []))
+  told_here = subst (IsToldOf used) told_now (told_of_lines used t g said tells.followed)
+
+  pub run_told : (a : List ℕ) → used ≡ a ++ 10 ∷ [] → (now : List ℕ) → now ≡ taken ++ text → IsRunSoFar used start now g
+  run_told a is now went = record {
+    pieces = run.pieces ++ tells.piece ∷ [];
+    same = told_now;
+    went = went ∙ ap (λ (l : List ℕ). l ++ text) run.went ∙ append_assoc start (text_of run.pieces) text
+        ∙ ap (λ (l : List ℕ). start ++ (text_of run.pieces ++ l)) tells.is
+        ∙ ap (λ (l : List ℕ). start ++ l) (sym (text_more run.pieces tells.piece));
+    lines = used;
+    rest = [];
+    among = sym (append-nil used);
+    told = told_here;
+    longer = λ u more reads placed. followed_longer a more t u g (ap (trace_of true) (sym is) ∙ said)
+        (ap (λ (l : List ℕ). trace_of true (l ++ more)) (sym is) ∙ reads) tells.placed placed tells.followed tells.all;
+  }
+
+  -- a part of the text went out
+  pub part_went : (came rest now : List ℕ) (n : ℕ) → came ≡ used ++ rest → now ≡ taken ++ take n text → WentOut came start now
+  part_went came rest now n among went = record {
+    pieces = run.pieces ++ tells.piece ∷ [];
+    ending = [];
+    bytes = length (text_of run.pieces) + n;
+    went = went ∙ ap (λ (l : List ℕ). l ++ take n text) run.went ∙ append_assoc start (text_of run.pieces) (take n text)
+        ∙ ap (λ (l : List ℕ). start ++ l) (sym (take-append-add (text_of run.pieces) text n)
+        ∙ ap (take (length (text_of run.pieces) + n)) (ap (λ (l : List ℕ). text_of run.pieces ++ l) tells.is
+        ∙ sym (text_more run.pieces tells.piece) ∙ sym (append-nil (text_of (run.pieces ++ tells.piece ∷ [])))));
+    lines = used;
+    rest = rest;
+    among = among;
+    told = told_here;
+    ends = inl refl;
+  }
+
+-- nothing further went out
+pub nothing_went : (used start taken : List ℕ) (f : Follower) → IsRunSoFar used start taken f → (came rest : List ℕ)
+    → came ≡ used ++ rest → WentOut came start taken
+nothing_went used start taken f run came rest is = record {
+  pieces = run.pieces;
+  ending = [];
+  bytes = length (text_of run.pieces);
+  went = run.went ∙ ap (λ (l : List ℕ). start ++ l) (sym (take-append_seam (text_of run.pieces) []));
+  lines = run.lines;
+  rest = run.rest ++ rest;
+  among = is ∙ ap (λ (l : List ℕ). l ++ rest) run.among ∙ append_assoc run.lines run.rest rest;
+  told = run.told;
+  ends = inl refl;
+}
+
+-- ---- the end
+
+nil_permuted : (found : List Finding) → IsPermutation [] found → found ≡ []
+nil_permuted [] same = refl
+nil_permuted (x ∷ found) same =
+    let n : 1 + sum_by (λ (f : Finding). 1) found ≡ 0 = sum_by-IsPermutation (λ (f : Finding). 1) [] (x ∷ found) same in
+    absurd (omega (arith, n))
+
+none_told : (fs : List Finding) → Clean ≡ verdict_of fs → [] ≡ fs
+none_told [] is = refl
+none_told (x ∷ fs) is = cc
+
+nothing_found : (told found : List Finding) → [] ≡ told → IsPermutation told found → found ≡ []
+nothing_found told found none same =
+    nil_permuted found (subst (λ (fs : List Finding). IsPermutation fs found) (sym none) same)
+
+module _ (used start taken : List ℕ) (f g : Follower) (run : IsRunSoFar used start taken f) (t : TraceValue)
+    (said : trace_of true used ≡ Ok t) (text : List ℕ) (tells : TellsRest t f g text) where
+  told_all : told_in run.pieces ++ tells.rest ≡ g.told.items
+  told_all = ap (λ (fs : List Finding). fs ++ tells.rest) (sym run.same) ∙ sym tells.behind
+
+  end_told : (v : Verdict) → v ≡ verdict_of g.told.items → Ends used (told_in run.pieces) text v
+  end_told v is = (
+    t,
+    said,
+    tells.rest,
+    subst (TellsAll IsMade t []) (sym told_all) tells.all,
+    tells.is ∙ ap (λ (fs : List Finding). flat_map line_text tells.rest ++ last_lines fs (length t.entries)) (sym told_all),
+    is ∙ ap verdict_of (sym told_all),
+  )
+
+  pub end_went : (v : Verdict) → v ≡ verdict_of g.told.items → (now : List ℕ) → now ≡ taken ++ text → Follows used start now v
+  end_went v is now went = (
+    run.pieces,
+    text,
+    end_told v is,
+    went ∙ ap (λ (l : List ℕ). l ++ text) run.went ∙ append_assoc start (text_of run.pieces) text,
+  )
+
+  pub end_part : (v : Verdict) → v ≡ verdict_of g.told.items → (now : List ℕ) (n : ℕ) → now ≡ taken ++ take n text
+      → WentOut used start now
+  end_part v is now n went = record {
+    pieces = run.pieces;
+    ending = text;
+    bytes = length (text_of run.pieces) + n;
+    went = went ∙ ap (λ (l : List ℕ). l ++ take n text) run.went ∙ append_assoc start (text_of run.pieces) (take n text)
+        ∙ ap (λ (l : List ℕ). start ++ l) (sym (take-append-add (text_of run.pieces) text n));
+    lines = run.lines;
+    rest = run.rest;
+    among = run.among;
+    told = run.told;
+    ends = inr (v, end_told v is);
+  }
+
+  pub end_clean : Clean ≡ verdict_of g.told.items
+      → ((evidence : List (Option (List StepValue))) → findings_of t evidence ≡ [] → IsRightAndFresh t)
+      → IsTraceRightAndFresh used
+  end_clean is law = headline_by_bytes used t said (law tells.all.0 (nothing_found tells.all.2.0 (findings_of t tells.all.0)
+      (none_told g.told.items is ∙ tells.all.2.1) tells.all.2.2))
+
+-- ---- what is answered
+
+-- a reader that gave few bytes, and never failed
+pub record IsFine (trace : Reading) : Type 0 where
+  pub most : GivesFew trace
+  pub known : GivesNext trace
+  pub kept : ReaderNeverFailed trace
+
+pub fine_so_far : {R : Type 0} (given : R → List ℕ) (ends failures : R → ℕ) (remaining : R → Option (List ℕ)) (first now : R)
+    (t : TraceValue) (r : LineReader) → IsTraceSoFar given ends failures remaining first now t r → length r.lines ≤ CHUNK
+    → IsFine (reads given ends failures remaining first now)
+fine_so_far given ends failures remaining first now t r so_far few = record {
+  most = (
+    so_far.used ++ r.lines,
+    so_far.gave ∙ append_assoc (given first) so_far.used r.lines,
+    let fits = so_far.fits in omega (arith, length-append so_far.used r.lines, fits, few),
+  );
+  known = so_far.known;
+  kept = so_far.kept;
+}
+
+pub fine_whole : (trace : Reading) (t : TraceValue) → TraceRead trace (Ok t) → IsFine trace
+fine_whole trace t read = record { most = read.most; known = read.known; kept = read.kept }
+
+-- the writer stopped the run, or there was no memory
+pub stopped : (trace : Reading) (out : Writing) (e : AuditFault) → IsOneOf (kind.write ∷ kind.memory ∷ []) e → IsFine trace
+    → OfBytes trace (λ came. WentOut came out.before.taken out.after.taken) → StandsBehind out
+    → (IsWrite e → WriterFailed out) → (IsNotWrite e → WriterNeverFailed out) → Followed trace out (Err e)
+stopped trace out e kinds fine stands held failed unfailed = record {
+  follows = tt;
+  headline = λ is. absurd (cc (is));
+  stands = stands;
+  trace_refused = λ f is. absurd (no_trace e f kinds (cc (is)));
+  trace_cut = λ f is _. absurd (no_trace e f kinds (cc (is)));
+  most = fine.most;
+  known = fine.known;
+  held = held;
+  devices = blames e kinds failed;
+  kept = tt;
+  unfailed = λ none. (fine.kept, unfailed (not_write e none));
+}
+  where
+    no_trace : (e : AuditFault) (f : TraceFault) → IsOneOf (kind.write ∷ kind.memory ∷ []) e → e ≡ faults.Trace f → ⊥
+    no_trace (faults.Trace g) f is same = absurd (cc (is.0))
+    no_trace (faults.Evidence g) f is same = cc
+    no_trace (faults.Write n) f is same = cc
+    no_trace faults.OutOfMemory f is same = cc
+    no_trace faults.Limits f is same = cc
+    no_trace faults.Joined f is same = cc
+    no_trace faults.Input f is same = cc
+
+    not_write : (e : AuditFault) → BlamesNoDevice e → IsNotWrite e
+    not_write (faults.Trace f) none = tt
+    not_write (faults.Evidence f) none = tt
+    not_write (faults.Write n) none = none
+    not_write faults.OutOfMemory none = tt
+    not_write faults.Limits none = tt
+    not_write faults.Joined none = tt
+    not_write faults.Input none = tt
+
+    blames : (e : AuditFault) → IsOneOf (kind.write ∷ kind.memory ∷ []) e → (IsWrite e → WriterFailed out)
+        → BlamesOnly ⊥ (ReaderFailed trace) ⊥ (WriterFailed out) e
+    blames (faults.Trace f) is failed = absurd (cc (is.0))
+    blames (faults.Evidence f) is failed = absurd (cc (is.0))
+    blames (faults.Write n) is failed = failed tt
+    blames faults.OutOfMemory is failed = tt
+    blames faults.Limits is failed = tt
+    blames faults.Joined is failed = tt
+    blames faults.Input is failed = absurd (cc (is.0))
+
+-- a line was refused, or the reader failed
+pub refused : (trace : Reading) (out : Writing) (e : AuditFault) → TraceRead trace (Err e)
+    → OfBytes trace (λ came. WentOut came out.before.taken out.after.taken) → StandsBehind out → WriterNeverFailed out
+    → Followed trace out (Err e)
+refused trace out e read stands held kept = record {
+  follows = tt;
+  headline = λ is. absurd (cc (is));
+  stands = stands;
+  trace_refused = λ f is. read.refused f (cc (is));
+  trace_cut = λ f is by. read.cut f (cc (is)) by;
+  most = read.most;
+  known = read.known;
+  held = held;
+  devices = blames e read.kinds (λ f is by. read.failed f (ap (λ (x : AuditFault). Err x) is) by);
+  kept = tt;
+  unfailed = λ none. (read.unfailed none, kept);
+}
+  where
+    blames : (e : AuditFault) → IsOneOf (kind.trace ∷ kind.memory ∷ []) e
+        → ((f : TraceFault) → e ≡ faults.Trace f → f.cause ≡ causes.Read → ReaderFailed trace)
+        → BlamesOnly ⊥ (ReaderFailed trace) ⊥ (WriterFailed out) e
+    blames (faults.Trace f) is failed = failed f refl
+    blames (faults.Evidence f) is failed = absurd (cc (is.0))
+    blames (faults.Write n) is failed = absurd (cc (is.0))
+    blames faults.OutOfMemory is failed = tt
+    blames faults.Limits is failed = tt
+    blames faults.Joined is failed = tt
+    blames faults.Input is failed = absurd (cc (is.0))
+
+-- a writer that never failed before the last text
+pub failed_at_last : (one two three : Writer) → WriterNeverFailed (record { before = one; after = two })
+    → WriterFailed (record { before = two; after = three }) → WriterFailed (record { before = one; after = three })
+failed_at_last one two three kept (inl risen) = inl (risen ∙ ap (λ (n : ℕ). n + 1) kept.0)
+failed_at_last one two three kept (inr risen) = inr (risen ∙ ap (λ (n : ℕ). n + 1) kept.1)
+
+pub never_failed : (one two three : Writer) → WriterNeverFailed (record { before = one; after = two })
+    → WriterNeverFailed (record { before = two; after = three }) → WriterNeverFailed (record { before = one; after = three })
+never_failed one two three before then = (then.0 ∙ before.0, then.1 ∙ before.1)
+
+pub held_on : (one two three : Writer) → StandsBehind (record { before = one; after = two })
+    → StandsBehind (record { before = two; after = three }) → StandsBehind (record { before = one; after = three })
+held_on one two three before then =
+    behind-trans (λ (w : Writer). w.taken) (λ (w : Writer). w.held) one two three before then
