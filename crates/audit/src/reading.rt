@@ -72,7 +72,10 @@ pub fn take_line<R: Source>(
         → TraceRead (reads R.given R.ends R.failures R.remaining first reader.new) (trace_by builder.new result) }
     ensures known { AreNext R.given R.ends R.remaining reader.old reader.new }
 {
-    Ok(take_next(lines, reader, builder)?)
+    match take_next(lines, reader, builder) {
+        Ok(more) => Ok(more),
+        Err(fault) => Err(AuditFault::from(fault)),
+    }
 }
 
 /// The trace of a reader, by so many workers, of which several read a block of lines each.

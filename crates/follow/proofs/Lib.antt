@@ -1,1 +1,3 @@
+pub mod GrownLemmas
+pub mod MadeLemmas
 pub mod RunLemmas

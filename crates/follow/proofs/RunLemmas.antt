@@ -7,8 +7,9 @@ use Rattle.std.proofs.lemmas.Grind.{flat_map-append}
 use Rattle.std.proofs.lemmas.List.{append_cancel_left}
 use Rattle.std.proofs.lemmas.List.Sorted.{sum_by-IsPermutation}
 use Rattle.std.proofs.lemmas.List.Splits.{length-slice_split}
+use Rattle.std.proofs.lemmas.List.Sums.{sum_by-cons}
 use Rattle.devices.specs.Given.{AreNext, StandBehind}
-use Rattle.devices.proofs.Given.{behind-trans, next-refl}
+use Rattle.devices.proofs.Given.{behind-trans, of_whole-map}
 use Rattle.json_lines.specs.Reading.{parts}
 use Rattle.json_lines.specs.declared.lines.TheConstants.{CHUNK}
 use Rattle.json_lines.specs.declared.next.LineReader.{LineReader}
@@ -26,7 +27,7 @@ use Rattle.findings.specs.declared.finding.Finding.{Finding}
 use Rattle.monitor.specs.Standing.{IsAtEnd}
 use Rattle.monitor.specs.Whole.{TellsAll}
 use Rattle.audit.specs.Audit.{BlamesNoDevice, BlamesOnly, IsNotWrite, IsWrite, verdict_of}
-use Rattle.audit.specs.Devices.{Reading, Writing, Writer, reads, writes, writer, OfBytes, OfWhole, GivesFew, GivesNext, ReaderFailed, ReaderNeverFailed, WriterFailed, WriterNeverFailed, StandsBehind}
+use Rattle.audit.specs.Devices.{Reader, Reading, Writing, Writer, reads, OfBytes, OfWhole, GivesFew, GivesNext, ReaderFailed, ReaderNeverFailed, WriterFailed, WriterNeverFailed, StandsBehind}
 use Rattle.audit.specs.Kinds.{IsOneOf}
 use Rattle.audit.specs.Kinds as kind
 use Rattle.audit.specs.Made.{IsMade}
@@ -35,12 +36,12 @@ use Rattle.audit.specs.declared.plain.Verdict.{Verdict}
 use Rattle.audit.specs.declared.plain.Verdict.TheVariants.{Clean, Dirty}
 use Rattle.audit.specs.declared.plain.AuditFault.{AuditFault}
 use Rattle.audit.specs.declared.plain.AuditFault.TheVariants as faults
-use Rattle.audit.proofs.Answering.{headline_by_bytes}
+use Rattle.findings.proofs.EachEntryLemmas.{headline_by_bytes}
 use Rattle.follow.specs.Following.{Ends, Followed, Follows, WentOut}
 use Rattle.follow.specs.Pieces.{Piece, piece_text, text_of, told_in}
 use Rattle.follow.specs.SoFar.{IsFollowed, IsToldOf, TellsPiece, TellsRest}
 use Rattle.follow.specs.declared.follower.Follower.{Follower}
-use Rattle.follow.proofs.GrownLemmas.{followed_longer, said_lines, told_of_lines}
+use Rattle.follow.proofs.GrownLemmas.{followed_longer, told_nothing, told_of_lines}
 
 -- ---- the lines so far grow
 
@@ -81,9 +82,18 @@ module _ {R : Type 0} (given : R → List ℕ) (ends failures : R → ℕ) (rema
             absurd (omega (arith, one, two, alike, next, none, some))
       ]
 
+  -- all that came, beside the lines that were used
+  pub came_since : (old new : R) (t : TraceValue) (r : LineReader)
+      → (so_far : IsTraceSoFar given ends failures remaining first old t r) → (known : AreNext given ends remaining old new)
+      → given new ≡ given first ++ (so_far.used ++ (r.lines ++ known.0))
+  came_since old new t r so_far known =
+      known.1 ∙ ap (λ (l : List ℕ). l ++ known.0) so_far.gave
+      ∙ append_assoc (given first ++ so_far.used) r.lines known.0
+      ∙ append_assoc (given first) so_far.used (r.lines ++ known.0)
+
 -- ---- what was told and written of the lines so far
 
-pub record IsRunSoFar (used start taken : List ℕ) (f : Follower) : Type 0 where
+pub record IsTextSoFar (used start taken : List ℕ) (f : Follower) : Type 0 where
   pub pieces : List Piece
   pub same : f.told.items ≡ told_in pieces
   pub went : taken ≡ start ++ text_of pieces
@@ -91,35 +101,48 @@ pub record IsRunSoFar (used start taken : List ℕ) (f : Follower) : Type 0 wher
   pub rest : List ℕ
   pub among : used ≡ lines ++ rest
   pub told : IsToldOf lines (told_in pieces)
+
+-- and of each longer log it is told, too
+pub record IsRunSoFar (used start taken : List ℕ) (f : Follower) : Type 0 where
+  pub text : IsTextSoFar used start taken f
   pub longer : (u : TraceValue) (more : List ℕ) → trace_of true (used ++ more) ≡ Ok u → AreInPlace u → IsFollowed u f
 
 pub run_first : (f : Follower) (start : List ℕ) → f.told.items ≡ [] → ((t : TraceValue) → IsFollowed t f)
-    → IsToldOf [] [] → IsRunSoFar [] start start f
-run_first f start none followed told = record {
-  pieces = [];
-  same = none;
-  went = sym (append-nil start);
-  lines = [];
-  rest = [];
-  among = refl;
-  told = told;
+    → IsRunSoFar [] start start f
+run_first f start none followed = record {
+  text = record {
+    pieces = [];
+    same = none;
+    went = sym (append-nil start);
+    lines = [];
+    rest = [];
+    among = refl;
+    told = told_nothing;
+  };
   longer = λ u more is placed. followed u;
 }
 
--- a line was taken
+-- lines were taken
 pub run_line : (used further line start taken : List ℕ) (f : Follower) → further ≡ used ++ line
     → IsRunSoFar used start taken f → IsRunSoFar further start taken f
 run_line used further line start taken f is run = record {
-  pieces = run.pieces;
-  same = run.same;
-  went = run.went;
-  lines = run.lines;
-  rest = run.rest ++ line;
-  among = is ∙ ap (λ (l : List ℕ). l ++ line) run.among ∙ append_assoc run.lines run.rest line;
-  told = run.told;
+  text = record {
+    pieces = run.text.pieces;
+    same = run.text.same;
+    went = run.text.went;
+    lines = run.text.lines;
+    rest = run.text.rest ++ line;
+    among = is ∙ ap (λ (l : List ℕ). l ++ line) run.text.among ∙ append_assoc run.text.lines run.text.rest line;
+    told = run.text.told;
+  };
   longer = λ u more said placed. run.longer u (line ++ more)
       (ap (trace_of true) (sym (append_assoc used line more) ∙ ap (λ (l : List ℕ). l ++ more) (sym is)) ∙ said) placed;
 }
+
+pub followed_now : (used start taken : List ℕ) (f : Follower) (t : TraceValue) → IsRunSoFar used start taken f
+    → trace_of true used ≡ Ok t → AreInPlace t → IsFollowed t f
+followed_now used start taken f t run said placed =
+    run.longer t [] (ap (trace_of true) (append-nil used) ∙ said) placed
 
 told_more : (pieces : List Piece) (p : Piece) → told_in (pieces ++ p ∷ []) ≡ told_in pieces ++ p.told
 told_more pieces p = flat_map-append (λ (q : Piece). q.told) pieces (p ∷ [])
@@ -129,27 +152,60 @@ text_more : (pieces : List Piece) (p : Piece) → text_of (pieces ++ p ∷ []) �
 text_more pieces p = flat_map-append piece_text pieces (p ∷ [])
     ∙ ap (λ (l : List ℕ). text_of pieces ++ l) (append-nil (piece_text p))
 
--- what the lines let tell is told
-module _ (used start taken : List ℕ) (f g : Follower) (run : IsRunSoFar used start taken f) (t : TraceValue)
-    (said : trace_of true used ≡ Ok t) (text : List ℕ) (tells : TellsPiece t f g text) where
-  told_now : g.told.items ≡ told_in (run.pieces ++ tells.piece ∷ [])
-  told_now = tells.behind ∙ ap (λ (fs : List Finding). fs ++ tells.piece.told) run.same
-      ∙ sym (told_more run.pieces tells.piece)
+-- nothing further went out
+pub nothing_went : (used start taken : List ℕ) (f : Follower) → IsTextSoFar used start taken f → (came rest : List ℕ)
+    → came ≡ used ++ rest → WentOut came start taken
+nothing_went used start taken f so_far came rest is = record {
+  pieces = so_far.pieces;
+  ending = [];
+  bytes = length (text_of so_far.pieces);
+  went = so_far.went ∙ ap (λ (l : List ℕ). start ++ l) (sym (take-append_seam (text_of so_far.pieces) []));
+  lines = so_far.lines;
+  rest = so_far.rest ++ rest;
+  among = is ∙ ap (λ (l : List ℕ). l ++ rest) so_far.among ∙ append_assoc so_far.lines so_far.rest rest;
+  told = so_far.told;
+  ends = inl refl;
+}
 
-  told_here : IsToldOf used (told_in (run.pieces ++ tells.piece ∷ []))
+pub nothing_at_all : (start : List ℕ) → WentOut [] start start
+nothing_at_all start = record {
+  pieces = [];
+  ending = [];
+  bytes = 0;
+  went = sym (append-nil start);
+  lines = [];
+  rest = [];
+  among = refl;
+  told = told_nothing;
+  ends = inl refl;
+}
+
+-- what the lines let tell is told
+module _ (used start taken : List ℕ) (f g : Follower) (so_far : IsTextSoFar used start taken f) (t : TraceValue)
+    (said : trace_of true used ≡ Ok t) (text : List ℕ) (tells : TellsPiece t f g text) where
+  told_now : g.told.items ≡ told_in (so_far.pieces ++ tells.piece ∷ [])
+  told_now = tells.behind ∙ ap (λ (fs : List Finding). fs ++ tells.piece.told) so_far.same
+      ∙ sym (told_more so_far.pieces tells.piece)
+
+  told_here : IsToldOf used (told_in (so_far.pieces ++ tells.piece ∷ []))
   told_here = subst (IsToldOf used) told_now (told_of_lines used t g said tells.followed)
 
-  pub run_told : (a : List ℕ) → used ≡ a ++ 10 ∷ [] → (now : List ℕ) → now ≡ taken ++ text → IsRunSoFar used start now g
-  run_told a is now went = record {
-    pieces = run.pieces ++ tells.piece ∷ [];
+  pub text_told : (now : List ℕ) → now ≡ taken ++ text → IsTextSoFar used start now g
+  text_told now went = record {
+    pieces = so_far.pieces ++ tells.piece ∷ [];
     same = told_now;
-    went = went ∙ ap (λ (l : List ℕ). l ++ text) run.went ∙ append_assoc start (text_of run.pieces) text
-        ∙ ap (λ (l : List ℕ). start ++ (text_of run.pieces ++ l)) tells.is
-        ∙ ap (λ (l : List ℕ). start ++ l) (sym (text_more run.pieces tells.piece));
+    went = went ∙ ap (λ (l : List ℕ). l ++ text) so_far.went ∙ append_assoc start (text_of so_far.pieces) text
+        ∙ ap (λ (l : List ℕ). start ++ (text_of so_far.pieces ++ l)) tells.is
+        ∙ ap (λ (l : List ℕ). start ++ l) (sym (text_more so_far.pieces tells.piece));
     lines = used;
     rest = [];
     among = sym (append-nil used);
     told = told_here;
+  }
+
+  pub run_told : (a : List ℕ) → used ≡ a ++ 10 ∷ [] → (now : List ℕ) → now ≡ taken ++ text → IsRunSoFar used start now g
+  run_told a is now went = record {
+    text = text_told now went;
     longer = λ u more reads placed. followed_longer a more t u g (ap (trace_of true) (sym is) ∙ said)
         (ap (λ (l : List ℕ). trace_of true (l ++ more)) (sym is) ∙ reads) tells.placed placed tells.followed tells.all;
   }
@@ -157,13 +213,14 @@ module _ (used start taken : List ℕ) (f g : Follower) (run : IsRunSoFar used s
   -- a part of the text went out
   pub part_went : (came rest now : List ℕ) (n : ℕ) → came ≡ used ++ rest → now ≡ taken ++ take n text → WentOut came start now
   part_went came rest now n among went = record {
-    pieces = run.pieces ++ tells.piece ∷ [];
+    pieces = so_far.pieces ++ tells.piece ∷ [];
     ending = [];
-    bytes = length (text_of run.pieces) + n;
-    went = went ∙ ap (λ (l : List ℕ). l ++ take n text) run.went ∙ append_assoc start (text_of run.pieces) (take n text)
-        ∙ ap (λ (l : List ℕ). start ++ l) (sym (take-append-add (text_of run.pieces) text n)
-        ∙ ap (take (length (text_of run.pieces) + n)) (ap (λ (l : List ℕ). text_of run.pieces ++ l) tells.is
-        ∙ sym (text_more run.pieces tells.piece) ∙ sym (append-nil (text_of (run.pieces ++ tells.piece ∷ [])))));
+    bytes = length (text_of so_far.pieces) + n;
+    went = went ∙ ap (λ (l : List ℕ). l ++ take n text) so_far.went
+        ∙ append_assoc start (text_of so_far.pieces) (take n text)
+        ∙ ap (λ (l : List ℕ). start ++ l) (sym (take-append-add (text_of so_far.pieces) text n)
+        ∙ ap (take (length (text_of so_far.pieces) + n)) (ap (λ (l : List ℕ). text_of so_far.pieces ++ l) tells.is
+        ∙ sym (text_more so_far.pieces tells.piece) ∙ sym (append-nil (text_of (so_far.pieces ++ tells.piece ∷ [])))));
     lines = used;
     rest = rest;
     among = among;
@@ -171,28 +228,36 @@ module _ (used start taken : List ℕ) (f g : Follower) (run : IsRunSoFar used s
     ends = inl refl;
   }
 
--- nothing further went out
-pub nothing_went : (used start taken : List ℕ) (f : Follower) → IsRunSoFar used start taken f → (came rest : List ℕ)
-    → came ≡ used ++ rest → WentOut came start taken
-nothing_went used start taken f run came rest is = record {
-  pieces = run.pieces;
-  ending = [];
-  bytes = length (text_of run.pieces);
-  went = run.went ∙ ap (λ (l : List ℕ). start ++ l) (sym (take-append_seam (text_of run.pieces) []));
-  lines = run.lines;
-  rest = run.rest ++ rest;
-  among = is ∙ ap (λ (l : List ℕ). l ++ rest) run.among ∙ append_assoc run.lines run.rest rest;
-  told = run.told;
-  ends = inl refl;
-}
+-- where telling failed
+pub tell_went : (used start : List ℕ) (f g : Follower) (t : TraceValue) → trace_of true used ≡ Ok t → (out : Writing)
+    → IsTextSoFar used start out.before.taken f → (e : AuditFault)
+    → Told (λ text (l : TraceValue). (l ≡ t) × TellsPiece t f g text) out (Err e) → (came rest : List ℕ)
+    → came ≡ used ++ rest → WentOut came start out.after.taken
+tell_went used start f g t said out so_far (faults.Write n) told came rest is =
+    let h = told.write n refl in
+    part_went used start out.before.taken f g so_far t said h.1 h.2.1 came rest out.after.taken n is h.3.1
+tell_went used start f g t said out so_far (faults.Trace x) told came rest is =
+    subst (WentOut came start) (sym (told.unwritten tt)) (nothing_went used start out.before.taken f so_far came rest is)
+tell_went used start f g t said out so_far (faults.Evidence x) told came rest is =
+    subst (WentOut came start) (sym (told.unwritten tt)) (nothing_went used start out.before.taken f so_far came rest is)
+tell_went used start f g t said out so_far faults.OutOfMemory told came rest is =
+    subst (WentOut came start) (sym (told.unwritten tt)) (nothing_went used start out.before.taken f so_far came rest is)
+tell_went used start f g t said out so_far faults.Limits told came rest is =
+    subst (WentOut came start) (sym (told.unwritten tt)) (nothing_went used start out.before.taken f so_far came rest is)
+tell_went used start f g t said out so_far faults.Joined told came rest is =
+    subst (WentOut came start) (sym (told.unwritten tt)) (nothing_went used start out.before.taken f so_far came rest is)
+tell_went used start f g t said out so_far faults.Input told came rest is =
+    subst (WentOut came start) (sym (told.unwritten tt)) (nothing_went used start out.before.taken f so_far came rest is)
 
 -- ---- the end
 
 nil_permuted : (found : List Finding) → IsPermutation [] found → found ≡ []
 nil_permuted [] same = refl
 nil_permuted (x ∷ found) same =
-    let n : 1 + sum_by (λ (f : Finding). 1) found ≡ 0 = sum_by-IsPermutation (λ (f : Finding). 1) [] (x ∷ found) same in
-    absurd (omega (arith, n))
+    let one : Finding → ℕ = λ f. 1 in
+    let none : sum_by one (x ∷ found) ≡ 0 = sum_by-IsPermutation one [] (x ∷ found) same in
+    let some = sum_by-cons one x found in
+    absurd (omega (arith, none, some))
 
 none_told : (fs : List Finding) → Clean ≡ verdict_of fs → [] ≡ fs
 none_told [] is = refl
@@ -202,12 +267,12 @@ nothing_found : (told found : List Finding) → [] ≡ told → IsPermutation to
 nothing_found told found none same =
     nil_permuted found (subst (λ (fs : List Finding). IsPermutation fs found) (sym none) same)
 
-module _ (used start taken : List ℕ) (f g : Follower) (run : IsRunSoFar used start taken f) (t : TraceValue)
+module _ (used start taken : List ℕ) (f g : Follower) (so_far : IsTextSoFar used start taken f) (t : TraceValue)
     (said : trace_of true used ≡ Ok t) (text : List ℕ) (tells : TellsRest t f g text) where
-  told_all : told_in run.pieces ++ tells.rest ≡ g.told.items
-  told_all = ap (λ (fs : List Finding). fs ++ tells.rest) (sym run.same) ∙ sym tells.behind
+  told_all : told_in so_far.pieces ++ tells.rest ≡ g.told.items
+  told_all = ap (λ (fs : List Finding). fs ++ tells.rest) (sym so_far.same) ∙ sym tells.behind
 
-  end_told : (v : Verdict) → v ≡ verdict_of g.told.items → Ends used (told_in run.pieces) text v
+  end_told : (v : Verdict) → v ≡ verdict_of g.told.items → Ends used (told_in so_far.pieces) text v
   end_told v is = (
     t,
     said,
@@ -219,24 +284,24 @@ module _ (used start taken : List ℕ) (f g : Follower) (run : IsRunSoFar used s
 
   pub end_went : (v : Verdict) → v ≡ verdict_of g.told.items → (now : List ℕ) → now ≡ taken ++ text → Follows used start now v
   end_went v is now went = (
-    run.pieces,
+    so_far.pieces,
     text,
     end_told v is,
-    went ∙ ap (λ (l : List ℕ). l ++ text) run.went ∙ append_assoc start (text_of run.pieces) text,
+    went ∙ ap (λ (l : List ℕ). l ++ text) so_far.went ∙ append_assoc start (text_of so_far.pieces) text,
   )
 
   pub end_part : (v : Verdict) → v ≡ verdict_of g.told.items → (now : List ℕ) (n : ℕ) → now ≡ taken ++ take n text
       → WentOut used start now
   end_part v is now n went = record {
-    pieces = run.pieces;
+    pieces = so_far.pieces;
     ending = text;
-    bytes = length (text_of run.pieces) + n;
-    went = went ∙ ap (λ (l : List ℕ). l ++ take n text) run.went ∙ append_assoc start (text_of run.pieces) (take n text)
-        ∙ ap (λ (l : List ℕ). start ++ l) (sym (take-append-add (text_of run.pieces) text n));
-    lines = run.lines;
-    rest = run.rest;
-    among = run.among;
-    told = run.told;
+    bytes = length (text_of so_far.pieces) + n;
+    went = went ∙ ap (λ (l : List ℕ). l ++ take n text) so_far.went ∙ append_assoc start (text_of so_far.pieces) (take n text)
+        ∙ ap (λ (l : List ℕ). start ++ l) (sym (take-append-add (text_of so_far.pieces) text n));
+    lines = so_far.lines;
+    rest = so_far.rest;
+    among = so_far.among;
+    told = so_far.told;
     ends = inr (v, end_told v is);
   }
 
@@ -359,3 +424,67 @@ pub held_on : (one two three : Writer) → StandsBehind (record { before = one; 
     → StandsBehind (record { before = two; after = three }) → StandsBehind (record { before = one; after = three })
 held_on one two three before then =
     behind-trans (λ (w : Writer). w.taken) (λ (w : Writer). w.held) one two three before then
+
+-- ---- the runs's ends
+
+module _ (trace : Reading) (one two three : Writer) (kept : WriterNeverFailed (record { before = one; after = two }))
+    (held : StandsBehind (record { before = one; after = two })) where
+  -- telling was stopped
+  pub tell_stopped : (e : AuditFault) (used : List ℕ) (f g : Follower) (t : TraceValue) → IsFine trace
+      → trace_of true used ≡ Ok t → IsTextSoFar used one.taken two.taken f
+      → Told (λ text (l : TraceValue). (l ≡ t) × TellsPiece t f g text) (record { before = two; after = three }) (Err e)
+      → (came rest : List ℕ) → trace.after.given ≡ trace.before.given ++ came → came ≡ used ++ rest
+      → Followed trace (record { before = one; after = three }) (Err e)
+  tell_stopped e used f g t fine said so_far told came rest gave is =
+      stopped trace (record { before = one; after = three }) e told.kinds fine
+      (came, gave, tell_went used one.taken f g t said (record { before = two; after = three }) so_far e told came rest is)
+      (held_on one two three held told.held)
+      (λ writes. failed_at_last one two three kept (told.failed writes))
+      (λ others. never_failed one two three kept (told.unfailed others))
+
+  -- the end was told, or that was stopped
+  pub ended : (result : Result Verdict AuditFault) (came : List ℕ) (f g : Follower) (t : TraceValue) → IsFine trace
+      → OfWhole trace (λ a. a ≡ came) → trace_of true came ≡ Ok t → IsTextSoFar came one.taken two.taken f
+      → ((evidence : List (Option (List StepValue))) → findings_of t evidence ≡ [] → IsRightAndFresh t)
+      → Told (λ text v. TellsRest t f g text × (v ≡ verdict_of g.told.items)) (record { before = two; after = three }) result
+      → Followed trace (record { before = one; after = three }) result
+  ended (Ok v) came f g t fine whole said so_far law told =
+      let says = told.text.1 in record {
+        follows = of_whole-map (λ (s : Reader). s.given) (λ (s : Reader). s.ends) trace.before trace.after (λ a. a ≡ came)
+            (λ a. Follows a one.taken three.taken v) (λ a is. subst (λ (l : List ℕ). Follows l one.taken three.taken v) (sym is)
+            (end_went came one.taken two.taken f g so_far t said told.text.0 says.0 v says.1 three.taken told.text.2)) whole;
+        headline = λ clean. of_whole-map (λ (s : Reader). s.given) (λ (s : Reader). s.ends) trace.before trace.after
+            (λ a. a ≡ came) IsTraceRightAndFresh (λ a is. subst IsTraceRightAndFresh (sym is)
+            (end_clean came one.taken two.taken f g so_far t said told.text.0 says.0 (cc (clean) ∙ says.1) law)) whole;
+        stands = tt;
+        trace_refused = λ f is. absurd (cc (is));
+        trace_cut = λ f is. absurd (cc (is));
+        most = fine.most;
+        known = fine.known;
+        held = held_on one two three held told.held;
+        devices = tt;
+        kept = (fine.kept, never_failed one two three kept told.kept);
+        unfailed = tt;
+      }
+  ended (Err e) came f g t fine whole said so_far law told =
+      stopped trace (record { before = one; after = three }) e told.kinds fine
+      (whole.1.0, whole.1.1, subst (λ (l : List ℕ). WentOut l one.taken three.taken) (sym whole.1.2) (by_fault e told))
+      (held_on one two three held told.held)
+      (λ writes. failed_at_last one two three kept (told.failed writes))
+      (λ others. never_failed one two three kept (told.unfailed others))
+    where
+      nothing : three.taken ≡ two.taken → WentOut came one.taken three.taken
+      nothing is = subst (WentOut came one.taken) (sym is)
+          (nothing_went came one.taken two.taken f so_far came [] (sym (append-nil came)))
+
+      by_fault : (e : AuditFault) → Told (λ text v. TellsRest t f g text × (v ≡ verdict_of g.told.items))
+          (record { before = two; after = three }) (Err e) → WentOut came one.taken three.taken
+      by_fault (faults.Write n) told =
+          let h = told.write n refl in
+          end_part came one.taken two.taken f g so_far t said h.1 h.2.0 h.0 h.2.1 three.taken n h.3.1
+      by_fault (faults.Trace x) told = nothing (told.unwritten tt)
+      by_fault (faults.Evidence x) told = nothing (told.unwritten tt)
+      by_fault faults.OutOfMemory told = nothing (told.unwritten tt)
+      by_fault faults.Limits told = nothing (told.unwritten tt)
+      by_fault faults.Joined told = nothing (told.unwritten tt)
+      by_fault faults.Input told = nothing (told.unwritten tt)

@@ -11,10 +11,14 @@ pub record Piece : Type 0 where
   pub told : List Finding
   pub heartbeat : Option Heartbeat
 
+-- a number, and words behind it
+abbrev pub number_text : ℕ → List ℕ → List ℕ
+number_text n words = decimal n ++ words
+
 -- `through line N: E entries, F findings, O open`, and a newline
 abbrev pub heartbeat_text : Heartbeat → List ℕ
-heartbeat_text h = codes "through line " ++ decimal h.line ++ codes ": " ++ decimal h.entries ++ codes " entries, "
-    ++ decimal h.findings ++ codes " findings, " ++ decimal h.open ++ codes " open\n"
+heartbeat_text h = codes "through line " ++ (number_text h.line (codes ": ") ++ (number_text h.entries (codes " entries, ")
+    ++ (number_text h.findings (codes " findings, ") ++ number_text h.open (codes " open\n"))))
 
 abbrev pub beat_text : Option Heartbeat → List ℕ
 beat_text None = []

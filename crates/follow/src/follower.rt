@@ -1,6 +1,6 @@
 //! What is told of a log that grows, as the lines of the report.
 
-ghost use Rattle.std.specs.Prelude.{◌≡◌, ◌++◌, [], length, IfOk, IfSome, OnOk, string_bytes};
+ghost use Rattle.std.specs.Prelude.{◌≡◌, ◌≤◌, ◌++◌, [], length, IfOk, IfSome, OnOk, string_bytes};
 ghost use Rattle.trace_lines.specs.Values.{TraceValue};
 ghost use Rattle.audit.specs.Audit.{verdict_of};
 ghost use Rattle.monitor.specs.Standing.{IsAtEnd};
@@ -14,6 +14,7 @@ use monitor::{Monitor, tell_further};
 use std::alloc::{AllocError, Global};
 use std::mem::replace;
 use trace_lines::Trace;
+use trace_lines::laws::{entries_rise, stand_in_order, valid_strata, versions_issued_once};
 
 /// How much of a log was taken, and what was told of it.
 #[derive(Drop)]
@@ -55,15 +56,16 @@ impl Follower {
         MakingJudge::new(self.alloc, trace, finds)
     }
 
-    /// How far the log is settled, where any entry was settled since the last heartbeat. All its lines were taken, and
-    /// the last is this one.
-    fn heartbeat(&mut self, trace: &Trace, line: u64) -> Option<Heartbeat>
+    /// How far the log is settled, where the number of its last line is given, up to which all was taken, and any entry
+    /// was settled since the last heartbeat.
+    fn heartbeat(&mut self, trace: &Trace, line: Option<u64>) -> Option<Heartbeat>
         requires followed { IsFollowed trace.now self.old }
         ensures followed { IsFollowed trace.now self.new }
         ensures same { (self.new.monitor ≡ self.old.monitor) × (self.new.told ≡ self.old.told) }
         ensures through { IfSome result (λ h. IsThrough trace.now h.line h.entries) }
         ensures told { IfSome result (λ h. h.findings ≡ length self.old.told.items) }
     {
+        let line = line?;
         let judged = trace.len().saturating_sub(self.monitor.waiting.len());
         if judged <= self.beaten {
             return None;
@@ -71,7 +73,7 @@ impl Follower {
         self.beaten = judged;
         self.settled = settled_from(trace, self.settled);
         Some(Heartbeat {
-            line: last_settled_line(trace, self.settled, line),
+            line: last_settled_line(trace, self.settled, line)?,
             entries: self.settled as u64,
             findings: self.told.len() as u64,
             open: self.monitor.waiting.len() as u64,
@@ -94,11 +96,7 @@ impl Follower {
         self.finds = judge.finds;
         let mut text = String::new(self.alloc);
         push_lines(&self.told[before..], &mut text)?;
-        if let Some(line) = line {
-            if let Some(heartbeat) = self.heartbeat(trace, line) {
-                push_heartbeat(&heartbeat, &mut text)?;
-            }
-        }
+        push_heartbeat(self.heartbeat(trace, line), &mut text)?;
         Ok(text)
     }
 
@@ -109,6 +107,10 @@ impl Follower {
         requires all { IsAtEnd trace.now self.old.monitor }
         ensures text { IfOk result (λ s. TellsRest trace.now self.old self.new (string_bytes s)) }
     {
+        stand_in_order(trace);
+        entries_rise(trace);
+        versions_issued_once(trace);
+        valid_strata(trace);
         let before = self.told.len();
         let mut judge = self.judge(trace);
         self.monitor.end(trace, &mut judge, &mut self.told)?;
@@ -130,13 +132,16 @@ impl Follower {
 }
 
 /// The last line up to which all entries are settled, where so many are, and this is the last line.
-fn last_settled_line(trace: &Trace, settled: usize, line: u64) -> u64
-    requires { AreSettledTo trace.now settled }
-    ensures { IsThrough trace.now result settled }
+fn last_settled_line(trace: &Trace, settled: usize, line: u64) -> Option<u64>
+    requires settled { AreSettledTo trace.now settled }
+    requires within { settled ≤ length trace.now.entries }
+    ensures { IfSome result (λ l. IsThrough trace.now l settled) }
 {
-    if settled < trace.len() {
-        trace.entry(settled).line.saturating_sub(1)
-    } else {
-        line
+    if settled >= trace.len() {
+        return Some(line);
+    }
+    match trace.entry(settled).line {
+        0 => None,
+        next => Some(next - 1),
     }
 }

@@ -1,7 +1,8 @@
 //! How far a log is settled.
 
-ghost use Rattle.std.specs.Prelude.{◌≡◌, ◌≤◌, ◌++◌, length, OnOk, string_bytes};
-ghost use Rattle.follow.specs.Pieces.{heartbeat_text};
+ghost use Rattle.std.specs.Prelude.{◌≡◌, ◌≤◌, ◌++◌, true, nat_le, length, OnOk, string_bytes};
+ghost use Rattle.std.specs.List.{list_any};
+ghost use Rattle.follow.specs.Pieces.{beat_text, heartbeat_text, number_text};
 ghost use Rattle.follow.specs.SoFar.{AreSettledTo};
 
 use std::alloc::AllocError;
@@ -22,8 +23,27 @@ pub struct Heartbeat {
     pub open: u64,
 }
 
-/// Appends a heartbeat as a line. It is refused only where memory runs out.
-pub(crate) fn push_heartbeat(heartbeat: &Heartbeat, text: &mut String) -> Result<(), AllocError>
+/// Appends a heartbeat as a line, if there is one. It is refused only where memory runs out.
+pub(crate) fn push_heartbeat(
+    heartbeat: Option<Heartbeat>,
+    text: &mut String,
+) -> Result<(), AllocError>
+    ensures { OnOk result (string_bytes text.new ≡ string_bytes text.old ++ beat_text heartbeat) }
+{
+    match heartbeat {
+        Some(heartbeat) => push_line(&heartbeat, text),
+        None => Ok(()),
+    }
+}
+
+fn push_number(number: u64, words: &str, text: &mut String) -> Result<(), AllocError>
+    ensures { OnOk result (string_bytes text.new ≡ string_bytes text.old ++ number_text number words.now) }
+{
+    write!(text, "{number}{words}")?;
+    Ok(())
+}
+
+fn push_line(heartbeat: &Heartbeat, text: &mut String) -> Result<(), AllocError>
     ensures { OnOk result (string_bytes text.new ≡ string_bytes text.old ++ heartbeat_text heartbeat.now) }
 {
     let Heartbeat {
@@ -32,15 +52,17 @@ pub(crate) fn push_heartbeat(heartbeat: &Heartbeat, text: &mut String) -> Result
         findings,
         open,
     } = *heartbeat;
-    writeln!(
-        text,
-        "through line {line}: {entries} entries, {findings} findings, {open} open"
-    )?;
-    Ok(())
+    text.push_str("through line ")?;
+    push_number(line, ": ", text)?;
+    push_number(entries, " entries, ", text)?;
+    push_number(findings, " findings, ", text)?;
+    push_number(open, " open\n", text)
 }
 
 /// Whether some commit is at or above the timestamp.
-fn is_reached(trace: &Trace, at: u64) -> bool {
+fn is_reached(trace: &Trace, at: u64) -> bool
+    ensures { result ≡ true → list_any (λ c. nat_le at c.at) trace.now.commits ≡ true }
+{
     match trace.chains().commits().last() {
         Some(last) => at <= *last,
         None => false,

@@ -1,6 +1,6 @@
 //! What a monitor tells of all lines that a trace has.
 
-ghost use Rattle.std.specs.Prelude.{◌≡◌, List, OnOk};
+ghost use Rattle.std.specs.Prelude.{◌≡◌, ◌++◌, List, OnOk};
 ghost use Rattle.findings.specs.declared.finding.Finding.{Finding};
 ghost use Rattle.monitor.specs.SoFar.{IsTold};
 ghost use Rattle.monitor.specs.Standing.{IsAtEnd, Stands};
@@ -28,6 +28,7 @@ pub fn tell_further<J: Judge>(
     ensures judge { J.of judge.new ≡ J.of judge.old }
     ensures told { OnOk result ((start : List Finding) → IsTold J.allows trace.now monitor.old start told.old.items
         → IsTold J.allows trace.now monitor.new start told.new.items) }
+    ensures behind { OnOk result ((more : List Finding) × (told.new.items ≡ told.old.items ++ more)) }
 {
     stand_in_order(trace);
     entries_rise(trace);

@@ -13,13 +13,13 @@ invariant-loop-follower g l = record {
   room : l.lines.number + l.lines.room ≤ 2 ^ 30 + 1;
   number : 1 ≤ l.lines.number;
   kept : WriterNeverFailed (record {
-      before = writer g.W.Sink.taken g.W.Sink.flushes g.W.Sink.failures g.W.Sink.idle g.W.Write.contents l.fn.out;
-      after = writer g.W.Sink.taken g.W.Sink.flushes g.W.Sink.failures g.W.Sink.idle g.W.Write.contents l.out;
-    });
+    before = writer g.W.Sink.taken g.W.Sink.flushes g.W.Sink.failures g.W.Sink.idle g.W.Write.contents l.fn.out;
+    after = writer g.W.Sink.taken g.W.Sink.flushes g.W.Sink.failures g.W.Sink.idle g.W.Write.contents l.out;
+  });
   held : StandsBehind (record {
-      before = writer g.W.Sink.taken g.W.Sink.flushes g.W.Sink.failures g.W.Sink.idle g.W.Write.contents l.fn.out;
-      after = writer g.W.Sink.taken g.W.Sink.flushes g.W.Sink.failures g.W.Sink.idle g.W.Write.contents l.out;
-    });
+    before = writer g.W.Sink.taken g.W.Sink.flushes g.W.Sink.failures g.W.Sink.idle g.W.Write.contents l.fn.out;
+    after = writer g.W.Sink.taken g.W.Sink.flushes g.W.Sink.failures g.W.Sink.idle g.W.Write.contents l.out;
+  });
 }
 
 abbrev pub decreases-loop-follower : goal.decreases-loop-follower

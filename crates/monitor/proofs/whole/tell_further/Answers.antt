@@ -1,4 +1,4 @@
-use Rattle.std.proofs.Common.{◌≡◌, ℕ, true, false, List, Option, Some, None, refl, sym, ◌∙◌, subst}
+use Rattle.std.proofs.Common.{◌≡◌, ◌++◌, ℕ, true, false, List, [], Option, Some, None, refl, sym, ◌∙◌, ap, subst, append_assoc, append-nil}
 use Rattle.std.specs.Prelude.{IfSome, is_some}
 use Rattle.findings.specs.declared.finding.Finding.{Finding}
 use Rattle.monitor.specs.SoFar.{IsTold}
@@ -16,8 +16,13 @@ gone : (o : Option ℕ) → is_some o ≡ false → o ≡ None
 gone None h = refl
 gone (Some k) h = cc
 
+further : (old mid new : List Finding) → ((more : List Finding) × (mid ≡ old ++ more)) → {told : List Finding} → new ≡ mid ++ told
+    → (more : List Finding) × (new ≡ old ++ more)
+further old mid new (more, is) {told} then =
+    (more ++ told, then ∙ ap (λ (fs : List Finding). fs ++ told) is ∙ append_assoc old more told)
+
 pub loop-monitor-init : goal.loop-monitor-init
-loop-monitor-init g c = (c.requires.stands, λ start told. told, refl)
+loop-monitor-init g c = (c.requires.stands, λ start told. told, refl, ([], sym (append-nil c.args.told.now.items)))
 
 pub loop-monitor-preserved : goal.loop-monitor-preserved
 loop-monitor-preserved g c =
@@ -31,6 +36,9 @@ loop-monitor-preserved g c =
           (subst (λ (o : Option ℕ). IfSome o (λ k. Tells g.J.Judge.allows t k c.loop-monitor.told.items c.take.new.told.items)) line.1
           c.in_ok-take.ensures.told),
       c.in_ok-take.ensures.judge ∙ c.loop-monitor.invariant.2,
+      further c.args.told.now.items c.loop-monitor.told.items c.take.new.told.items c.loop-monitor.invariant.3
+          (subst (λ (o : Option ℕ). IfSome o (λ k. Tells g.J.Judge.allows t k c.loop-monitor.told.items c.take.new.told.items)) line.1
+          c.in_ok-take.ensures.told).2,
     )
 
 pub returns-clause-stands : goal.returns-clause-stands
@@ -38,6 +46,12 @@ returns-clause-stands g c = c.in_ok-take.ensures.stands
 
 pub returns-clause-all : goal.returns-clause-all
 returns-clause-all g c = (c.in_ok-take.ensures.all (gone c.in_ok-take.field-0 (sym c.if-is_some.ensures))).0
+
+pub returns-clause-behind : goal.returns-clause-behind
+returns-clause-behind g c =
+    let ended = c.in_ok-take.ensures.all (gone c.in_ok-take.field-0 (sym c.if-is_some.ensures)) in
+    subst (λ (fs : List Finding). (more : List Finding) × (fs ≡ c.args.told.now.items ++ more)) (sym ended.2)
+    c.loop-monitor.invariant.3
 
 pub returns-clause-told : goal.returns-clause-told
 returns-clause-told g c start told =

@@ -1,4 +1,4 @@
-use Rattle.std.proofs.Common.{◌≡◌, ◌+◌, ◌-◌, List, length}
+use Rattle.std.proofs.Common.{◌≡◌, ◌+◌, ◌-◌, ◌++◌, List, length}
 use Rattle.findings.specs.declared.finding.Finding.{Finding}
 use Rattle.monitor.specs.SoFar.{IsTold}
 use Rattle.monitor.specs.Standing.{Stands}
@@ -9,6 +9,7 @@ invariant-loop-monitor g l =
     Stands l.fn.trace l.monitor × ((start : List Finding) → IsTold g.J.Judge.allows l.fn.trace l.fn.monitor start l.fn.told.items
     → IsTold g.J.Judge.allows l.fn.trace l.monitor start l.told.items)
     × (g.J.Judge.of l.judge ≡ g.J.Judge.of l.fn.judge)
+    × ((more : List Finding) × (l.told.items ≡ l.fn.told.items ++ more))
 
 abbrev pub decreases-loop-monitor : goal.decreases-loop-monitor
 decreases-loop-monitor g l =

@@ -1,0 +1,77 @@
+-- What a follower takes and tells.
+use Rattle.std.proofs.Common.{◌≡◌, ℕ, zero, suc, ◌+◌, ◌-◌, ◌<◌, ◌≤◌, inl, inr, Bool, true, List, [], ◌∷◌, ◌++◌, length, map, take, drop, Option, Some, sym, ◌∙◌, ap, subst, arith, append_assoc, length-append}
+use Rattle.std.specs.Prelude.{slice_get, nat_le}
+use Rattle.std.specs.List.{list_any}
+use Rattle.std.specs.List.Sorted.{IsStrictlyIncreasing}
+use Rattle.std.proofs.Math.Seq.{drop-append_seam, take-length}
+use Rattle.std.proofs.lemmas.Bool.{cases_lt}
+use Rattle.std.proofs.lemmas.Option.{slice_get_within}
+use Rattle.trace_lines.specs.Values.{EntryValue, TraceValue, entry_lines}
+use Rattle.findings.specs.declared.finding.Finding.{Finding}
+use Rattle.windows.specs.Growth.{IsSettled}
+use Rattle.token_order.proofs.Lines.{line_before}
+use Rattle.follow.specs.SoFar.{AreSettledTo, IsThrough}
+
+-- an entry more is settled
+pub settled_next : (t : TraceValue) (n : ℕ) (x : EntryValue) → AreSettledTo t n → slice_get t.entries n ≡ Some x → IsSettled t x
+    → AreSettledTo t (n + 1)
+settled_next t n x before there settled i e at lt = elim (cases_lt i n) [
+  | inl earlier ↦ before i e at earlier
+  | inr ge ↦
+      let here : i ≡ n = omega (arith, lt, ge) in
+      let same : x ≡ e = let h = sym there ∙ ap (slice_get t.entries) (sym here) ∙ at in cc in
+      subst (IsSettled t) same settled
+]
+
+-- all entries are settled, so they are up to any line
+pub through_all : (t : TraceValue) (n line : ℕ) → AreSettledTo t n → n ≡ length t.entries → IsThrough t line n
+through_all t n line before all = record {
+  settled = λ i e at le. let lt = slice_get_within t.entries i e at in before i e at (omega (arith, lt, all));
+  counted = λ i e at le. let lt = slice_get_within t.entries i e at in omega (arith, lt, all);
+  there = omega (arith, all);
+}
+
+-- so many entries are settled, and the next one stands behind the line
+pub through_before : (t : TraceValue) → IsStrictlyIncreasing (entry_lines t.entries) → (n : ℕ) (x : EntryValue)
+    → AreSettledTo t n → slice_get t.entries n ≡ Some x → (line : ℕ) → line < x.line → IsThrough t line n
+through_before t rising n x before there line below = record {
+  settled = λ i e at le. before i e at (earlier i e at le below);
+  counted = λ i e at le. earlier i e at le below;
+  there = let lt = slice_get_within t.entries n x there in omega (arith, lt);
+}
+  where
+    not_earlier : (i : ℕ) (e : EntryValue) → slice_get t.entries i ≡ Some e → n ≤ i → x.line ≤ e.line
+    not_earlier i e at ge = elim (cases_lt n i) [
+      | inl lt ↦ let up = line_before t rising i n e x at there lt in omega (arith, up)
+      | inr le ↦
+          let here : n ≡ i = omega (arith, ge, le) in
+          let same : x ≡ e = let h = sym there ∙ ap (slice_get t.entries) here ∙ at in cc in
+          let lines = ap (λ (y : EntryValue). y.line) same in
+          omega (arith, lines)
+    ]
+
+    earlier : (i : ℕ) (e : EntryValue) → slice_get t.entries i ≡ Some e → e.line ≤ line → line < x.line → i < n
+    earlier i e at le below = elim (cases_lt i n) [
+      | inl lt ↦ lt
+      | inr ge ↦ let up = not_earlier i e at ge in absurd (omega (arith, le, below, up))
+    ]
+
+-- parts of a text, one behind the other
+pub joined : (o a b c d e v w x y z : List ℕ) → v ≡ o ++ a → w ≡ v ++ b → x ≡ w ++ c → y ≡ x ++ d → z ≡ y ++ e
+    → z ≡ o ++ (a ++ (b ++ (c ++ (d ++ e))))
+joined o a b c d e v w x y z one two three four five =
+    five ∙ ap (λ (l : List ℕ). l ++ e) four ∙ ap (λ (l : List ℕ). (l ++ d) ++ e) three
+    ∙ ap (λ (l : List ℕ). ((l ++ c) ++ d) ++ e) two ∙ ap (λ (l : List ℕ). (((l ++ b) ++ c) ++ d) ++ e) one
+    ∙ append_assoc (((o ++ a) ++ b) ++ c) d e ∙ append_assoc ((o ++ a) ++ b) c (d ++ e)
+    ∙ append_assoc (o ++ a) b (c ++ (d ++ e)) ∙ append_assoc o a (b ++ (c ++ (d ++ e)))
+
+-- what stands behind the first so many findings
+pub cut_behind : (old more whole : List Finding) (n : ℕ) → whole ≡ old ++ more → n ≡ length old
+    → take (length whole - n) (drop n whole) ≡ more
+cut_behind old more whole n is same =
+    let size = length-append old more in
+    let rest : length (old ++ more) - length old ≡ length more = omega (arith, size) in
+    ap (λ (fs : List Finding). take (length fs - n) (drop n fs)) is
+    ∙ ap (λ (k : ℕ). take (length (old ++ more) - k) (drop k (old ++ more))) same
+    ∙ ap (take (length (old ++ more) - length old)) (drop-append_seam old more)
+    ∙ ap (λ (k : ℕ). take k more) rest ∙ take-length more
