@@ -20,7 +20,8 @@ use Rattle.findings.specs.EachEntry.{SpeaksOfEachEntry, TellsOfEachEntry}
 use Rattle.findings.specs.declared.finding.Finding.{Finding}
 use Rattle.findings.specs.Headline.{IsTraceRightAndFresh}
 use Rattle.findings.specs.WrongReplies.{HasOnlyWrongRepliesNamed, NamesOnlyWrongReplies}
-use Rattle.new_enemy.specs.Files.{OfFiles, file_failures, IsNoTrace, IsCleanAudit, IsDirtyAudit, IsCleanAuditMade, IsDirtyAuditMade}
+use Rattle.follow.specs.Following.{Followed, Follows}
+use Rattle.new_enemy.specs.Files.{OfFiles, file_failures, IsNoTrace, IsCleanAudit, IsDirtyAudit, IsCleanAuditMade, IsDirtyAuditMade, IsCleanFollowing, IsDirtyFollowing}
 use Rattle.new_enemy.specs.Opened.{IsUnused, file_of}
 use Rattle.new_enemy.specs.Outcomes.{HasSucceeded, HasFoundDirty, HasRefused, HasReadNothing}
 use Rattle.new_enemy.specs.Run.{IsStatusOf, IsStatusDone}
@@ -30,7 +31,7 @@ use Rattle.new_enemy.specs.declared.opened.Opened.{Opened}
 use Rattle.new_enemy.specs.declared.run.Done.{Done}
 use Rattle.new_enemy.specs.declared.run.Ran.{Ran}
 use Rattle.new_enemy.specs.declared.run.Ran.TheVariants as ran
-use Rattle.new_enemy.proofs.DeviceStatuses.{devices_of_audit, devices_of_nothing, devices_of_trace}
+use Rattle.new_enemy.proofs.DeviceStatuses.{devices_of_audit, devices_of_follow, devices_of_nothing, devices_of_trace}
 use Rattle.new_enemy.proofs.FileStatuses.{no_audit, no_trace}
 use Rattle.new_enemy.proofs.Statuses.{Ends, answer_of, done_ends, done_is_not_one, ends_at_limits, ends_few, of_clean, of_dirty, of_done, verdict_ends}
 
@@ -152,6 +153,44 @@ module _ {F : Type 0} (left : Counted F → Option (List ℕ)) (a0 : Counted F) 
         (λ P p. p) (λ none. none) refl clean_made dirty_made
         (λ is. ap (λ (file : Counted F). moved_by file) (unread is) ∙ unused.0) (verdict_ends answer s st) kinds
         h.of_trace
+
+  module _ (answer : Result Verdict AuditFault) (st : IsStatusOf answer s)
+      (h : Followed (reads moved_by stops_of failures_of left a0 (file_of x)) out answer) where
+    followed_by : (v : Verdict) → answer ≡ Ok v
+        → (stops_of (file_of x) ≡ 1) × Follows (moved_by (file_of x)) out.before.taken out.after.taken v
+    followed_by v is =
+        whole a0 (file_of x) (λ a. Follows a out.before.taken out.after.taken v) unused
+        (answer_of answer v
+        (λ w. OfWhole (reads moved_by stops_of failures_of left a0 (file_of x))
+        (λ a. Follows a out.before.taken out.after.taken w)) is h.follows)
+
+    clean_following : s ≡ 0 → IsCleanFollowing (file_of x) out.before.taken out.after.taken
+    clean_following zero =
+        let is : answer ≡ Ok Clean = of_clean answer s st zero in
+        let all = followed_by Clean is in
+        (all.0, all.1, (whole a0 (file_of x) IsTraceRightAndFresh unused (h.headline is)).1)
+
+    dirty_following : s ≡ 1 → IsDirtyFollowing (file_of x) out.before.taken out.after.taken
+    dirty_following one =
+        let all = followed_by Dirty (of_dirty answer s st one) in (all.0, all.1, tt)
+
+    -- of a trace that is followed
+    pub runs_follow : IfErr answer (IsOneOf (kind.trace ∷ kind.write ∷ kind.memory ∷ []))
+        → RunsFiles (codes "follow") out s (ran.Followed x)
+    runs_follow kinds =
+        let ends = verdict_ends answer s st in
+        record {
+          command = refl;
+          clean = clean_following;
+          dirty = dirty_following;
+          refused = λ two. no_trace a0 (file_of x) unused.0 unused.1 answer s ends
+              (kinds-more (kind.trace ∷ kind.write ∷ kind.memory ∷ [])
+              (kind.trace ∷ kind.write ∷ kind.memory ∷ kind.limits ∷ []) refl answer kinds) h.trace_refused two;
+          used = λ three. never_limits answer kinds (ends_at_limits answer s ends three);
+          devices = devices_of_follow left a0 (file_of x) unused out s (ran.Followed x) (λ is. absurd (cc (is))) answer refl
+              (λ P p. p) refl ends h;
+          statuses = ends_few answer s ends;
+        }
 
   module _ (b0 : Counted F) (y : Opened F) (unused_yet : IsUnused b0) (answer : Result Verdict AuditFault)
       (st : IsStatusOf answer s)

@@ -21,6 +21,7 @@ module _ {F : Type 0} {J J' : Type 0} (old new : List ℕ) where
   of_joined (ran.AuditedAlone t) joined h = h
   of_joined (ran.Made t) joined h = h
   of_joined (ran.Told t) joined h = h
+  of_joined (ran.Followed t) joined h = h
   of_joined (ran.Shown text) joined h = h
   of_joined ran.Nothing joined h = h
 
@@ -28,6 +29,7 @@ module _ {F : Type 0} {J J' : Type 0} (old new : List ℕ) where
   dirty_joined ran.Joined joined h = joined refl h
   dirty_joined (ran.Audited t e) joined h = h
   dirty_joined (ran.AuditedAlone t) joined h = h
+  dirty_joined (ran.Followed t) joined h = h
   dirty_joined _ joined h = h
 
   refused_joined : (r : Ran F) → (J → J') → HasRefused J r → HasRefused J' r
@@ -36,6 +38,7 @@ module _ {F : Type 0} {J J' : Type 0} (old new : List ℕ) where
   refused_joined (ran.AuditedAlone t) joined h = h
   refused_joined (ran.Made t) joined h = h
   refused_joined (ran.Told t) joined h = h
+  refused_joined (ran.Followed t) joined h = h
   refused_joined (ran.Shown text) joined h = h
   refused_joined ran.Nothing joined h = h
 
@@ -45,12 +48,12 @@ says_of_joined input out s h =
     record {
       clean = h.clean;
       dirty = h.dirty;
-      flushed = h.flushed;
+      flushed = λ one _. h.flushed one;
       refused = h.refused;
       used = h.statuses.1;
       device = λ five opened. of_device (h.device five);
       kept = λ other. let none = h.kept other in (none.0, refl, none.1);
-      unwritten = h.unwritten;
+      unwritten = λ two four _. h.unwritten two four;
       most = (h.most, tt);
       known = h.known;
       held = h.held;
@@ -100,7 +103,7 @@ module _ {F : Type 0} (r : Reader) where
       record {
         clean = λ _. all;
         dirty = λ one. absurd (omega (arith, one));
-        flushed = λ _. flushed;
+        flushed = λ _ _. flushed;
         refused = λ two. absurd (omega (arith, two));
         used = λ three. absurd (omega (arith, three));
         device = λ five opened. absurd (omega (arith, five));
@@ -145,6 +148,7 @@ joined_is_asked (asked.audits t (Some e) w n early) old new s ran.Joined h is = 
 joined_is_asked (asked.audits t None w n early) old new s ran.Joined h is = absurd h
 joined_is_asked (asked.makes t list) old new s ran.Joined h is = absurd h
 joined_is_asked (asked.tells t u) old new s ran.Joined h is = absurd h.2
+joined_is_asked (asked.follows t heartbeat) old new s ran.Joined h is = absurd h
 joined_is_asked _ old new s run h is = absurd (cc (is))
 
 module _ {F : Type 0} (old new : List ℕ) (s : ℕ) (run : Ran F) where
@@ -166,6 +170,7 @@ module _ {F : Type 0} (old new : List ℕ) (s : ℕ) (run : Ran F) where
       of_none (ran.AuditedAlone t) unread = absurd (unread tt)
       of_none (ran.Made t) unread = absurd (unread tt)
       of_none (ran.Told t) unread = absurd (unread tt)
+      of_none (ran.Followed t) unread = absurd (unread tt)
 
   -- where something was read, words that ask for it are found
   found_asked : (words : List (List ℕ)) (o : Option Asked) → IfSome o (IsAskedBy words)
@@ -200,18 +205,22 @@ module _ {F : Type 0} (old new : List ℕ) (s : ℕ) (run : Ran F) where
           → ((t : List ℕ) → words ≡ codes "make" ∷ t ∷ [] → is_plain_word t ≡ true → o ≡ Some (asked.makes t false))
           → ((t u : List ℕ) → words ≡ codes "history" ∷ t ∷ u ∷ [] → is_plain_word t ≡ true → is_plain_word u ≡ true
           → o ≡ Some (asked.tells t u))
+          → ((t : List ℕ) → words ≡ codes "follow" ∷ t ∷ [] → is_plain_word t ≡ true → o ≡ Some (asked.follows t false))
+          → (words ≡ codes "follow" ∷ [] → o ≡ Some (asked.follows (codes "/dev/stdin") false))
           → (AreTaken words → (a : Asked) → Write words a → o ≡ Some a)
           → (is_shown run ≡ true → AskForHelp words)
           → IfSome o (λ a. slice_get words 0 ≡ command_of a)
           → IfSome o (IsAskedBy words) → IfSome o (λ a. IsOfCommand (command_of a) run)
           → IsAsked words old new s run
-      words_asked words audit audit_made make history taken shown first asks command =
+      words_asked words audit audit_made make history follow follow_input taken shown first asks command =
           let P = λ (a : Asked). RanAsked a old new s run in
           record {
             audit = λ t e is p q. asked_is o (asked.audits t (Some e) 1 64 false) P (audit t e is p q) by;
             audit_made = λ t is p. asked_is o (asked.audits t None 1 64 false) P (audit_made t is p) by;
             make = λ t is p. asked_is o (asked.makes t false) P (make t is p) by;
             history = λ t u is p q. asked_is o (asked.tells t u) P (history t u is p q) by;
+            follow = λ t is p. asked_is o (asked.follows t false) P (follow t is p) by;
+            follow_input = λ is. asked_is o (asked.follows (codes "/dev/stdin") false) P (follow_input is) by;
             taken = λ takes a writes. asked_is o a P (taken takes a writes) by;
             shown = shown;
             first = named_run (slice_get words 0) o first command none;

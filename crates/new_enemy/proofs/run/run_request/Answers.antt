@@ -17,3 +17,7 @@ pub returns-in-History-clause-says : goal.returns-in-History-clause-says
 returns-in-History-clause-says g c =
     says_of_files _ (codes "history") _ c.history_in_path.result.status c.history_in_path.result.read
     c.history_in_path.ensures.runs
+
+pub returns-in-Follow-clause-says : goal.returns-in-Follow-clause-says
+returns-in-Follow-clause-says g c =
+    says_of_files _ (codes "follow") _ c.follow_path.result.status c.follow_path.result.read c.follow_path.ensures.runs

@@ -24,7 +24,7 @@ returns-in-Ok-clause-asked g c =
     let done = c.run_answer.ensures in
     words_asked (g.W.Sink.taken c.args.out.now) (g.W.Sink.taken c.run_answer.new.out) c.run_answer.result.status
     c.run_answer.result.read (asked_in c.in-Ok.answer) done.asked done.none (map string_bytes c.args.words.now)
-    c.in-Ok.ensures.audit c.in-Ok.ensures.audit_made c.in-Ok.ensures.make c.in-Ok.ensures.history c.in-Ok.ensures.taken
+    c.in-Ok.ensures.audit c.in-Ok.ensures.audit_made c.in-Ok.ensures.make c.in-Ok.ensures.history c.in-Ok.ensures.follow c.in-Ok.ensures.follow_input c.in-Ok.ensures.taken
     (λ is. c.in-Ok.ensures.shown (done.shown is)) c.in-Ok.ensures.first
     c.in-Ok.ensures.asked done.command
 
