@@ -10,8 +10,8 @@
 //!
 //! The crate computes nothing: each law is what a function ensures that does nothing. `specs/` holds the words: `Begun`
 //! a log so far and a longer one, `Told` when each finding is told, `Followed` a log that is taken line by line,
-//! `Through` what no finding up to a line says. No program tells findings so yet. A caller who has a trace cites a law
-//! so:
+//! `Through` what no finding up to a line says. The crate `monitor` tells findings so, and with it the program's command
+//! `follow`. A caller who has a trace cites a law so:
 //!
 //! ```text
 //! findings_rise(&trace);

@@ -12,7 +12,8 @@
 //! `left_over` says, by evidence that the judge allows for what is judged there, in the order of the entries: nothing
 //! twice, too early or of another line. By the laws of `follow_laws` what is told so is true of each longer log, and all
 //! that it tells of a trace is what is found on it, each finding once ([`tell_all`]). A monitor that stands in a log
-//! stands in each longer one ([`laws::stands_on`]), so it goes on as lines come. No program uses it yet.
+//! stands in each longer one ([`laws::stands_on`]), so it goes on as lines come: [`tell_further`] takes all that came. The
+//! crate `follow` does so with a judge that makes its evidence.
 //!
 //! ```text
 //! while let Some(line) = monitor.take(&trace, &mut judge, &mut told)? { .. }

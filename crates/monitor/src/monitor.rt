@@ -321,7 +321,8 @@ impl Monitor {
     /// Takes the next line of a trace that is a commit or an entry, and adds to the findings what is told there: on an
     /// entry's line what rests on the lines before it, and its judgement where a commit before it settles it; on a
     /// commit's line the open snapshots that it shows, and the judgements of the entries that it settles. It gives
-    /// that line, or `None` where all lines are taken. It is refused only where memory runs out.
+    /// that line, or `None` where all lines are taken. It is refused only where memory runs out; the monitor is then no
+    /// longer of use.
     pub fn take<J: Judge>(
         &mut self,
         trace: &Trace,

@@ -21,23 +21,23 @@ further : (old mid new : List Finding) → ((more : List Finding) × (mid ≡ ol
 further old mid new (more, is) {told} then =
     (more ++ told, then ∙ ap (λ (fs : List Finding). fs ++ told) is ∙ append_assoc old more told)
 
-pub loop-monitor-init : goal.loop-monitor-init
-loop-monitor-init g c = (c.requires.stands, λ start told. told, refl, ([], sym (append-nil c.args.told.now.items)))
+pub loop-init : goal.loop-init
+loop-init g c = (c.requires.stands, λ start told. told, refl, ([], sym (append-nil c.args.told.now.items)))
 
-pub loop-monitor-preserved : goal.loop-monitor-preserved
-loop-monitor-preserved g c =
+pub loop-preserved : goal.loop-preserved
+loop-preserved g c =
     let t = c.args.trace.now in
     let line = there c.in_ok-take.field-0 (sym c.if-is_some.ensures) in (
       c.in_ok-take.ensures.stands,
       λ start told.
-          told_further t c.stand_in_order.ensures c.entries_rise.ensures g.J.Judge.allows c.loop-monitor.monitor c.take.new.self line.0
-          start c.loop-monitor.told.items c.take.new.told.items (c.loop-monitor.invariant.1 start told)
-          (subst (λ (o : Option ℕ). IfSome o (Takes t c.loop-monitor.monitor c.take.new.self)) line.1 c.in_ok-take.ensures.takes)
-          (subst (λ (o : Option ℕ). IfSome o (λ k. Tells g.J.Judge.allows t k c.loop-monitor.told.items c.take.new.told.items)) line.1
+          told_further t c.stand_in_order.ensures c.entries_rise.ensures g.J.Judge.allows c.loop.monitor c.take.new.self line.0
+          start c.loop.told.items c.take.new.told.items (c.loop.invariant.1 start told)
+          (subst (λ (o : Option ℕ). IfSome o (Takes t c.loop.monitor c.take.new.self)) line.1 c.in_ok-take.ensures.takes)
+          (subst (λ (o : Option ℕ). IfSome o (λ k. Tells g.J.Judge.allows t k c.loop.told.items c.take.new.told.items)) line.1
           c.in_ok-take.ensures.told),
-      c.in_ok-take.ensures.judge ∙ c.loop-monitor.invariant.2,
-      further c.args.told.now.items c.loop-monitor.told.items c.take.new.told.items c.loop-monitor.invariant.3
-          (subst (λ (o : Option ℕ). IfSome o (λ k. Tells g.J.Judge.allows t k c.loop-monitor.told.items c.take.new.told.items)) line.1
+      c.in_ok-take.ensures.judge ∙ c.loop.invariant.2,
+      further c.args.told.now.items c.loop.told.items c.take.new.told.items c.loop.invariant.3
+          (subst (λ (o : Option ℕ). IfSome o (λ k. Tells g.J.Judge.allows t k c.loop.told.items c.take.new.told.items)) line.1
           c.in_ok-take.ensures.told).2,
     )
 
@@ -51,12 +51,12 @@ pub returns-clause-behind : goal.returns-clause-behind
 returns-clause-behind g c =
     let ended = c.in_ok-take.ensures.all (gone c.in_ok-take.field-0 (sym c.if-is_some.ensures)) in
     subst (λ (fs : List Finding). (more : List Finding) × (fs ≡ c.args.told.now.items ++ more)) (sym ended.2)
-    c.loop-monitor.invariant.3
+    c.loop.invariant.3
 
 pub returns-clause-told : goal.returns-clause-told
 returns-clause-told g c start told =
     let t = c.args.trace.now in
     let ended = c.in_ok-take.ensures.all (gone c.in_ok-take.field-0 (sym c.if-is_some.ensures)) in
     subst (λ (m : Monitor). IsTold g.J.Judge.allows t m start c.take.new.told.items) (sym ended.1)
-    (subst (λ (fs : List Finding). IsTold g.J.Judge.allows t c.loop-monitor.monitor start fs) (sym ended.2)
-    (c.loop-monitor.invariant.1 start told))
+    (subst (λ (fs : List Finding). IsTold g.J.Judge.allows t c.loop.monitor start fs) (sym ended.2)
+    (c.loop.invariant.1 start told))

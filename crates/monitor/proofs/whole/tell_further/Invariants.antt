@@ -4,13 +4,13 @@ use Rattle.monitor.specs.SoFar.{IsTold}
 use Rattle.monitor.specs.Standing.{Stands}
 use Rattle.monitor.proofs.whole.tell_further.Given as goal
 
-abbrev pub invariant-loop-monitor : goal.invariant-loop-monitor
-invariant-loop-monitor g l =
+abbrev pub invariant-loop : goal.invariant-loop
+invariant-loop g l =
     Stands l.fn.trace l.monitor × ((start : List Finding) → IsTold g.J.Judge.allows l.fn.trace l.fn.monitor start l.fn.told.items
     → IsTold g.J.Judge.allows l.fn.trace l.monitor start l.told.items)
     × (g.J.Judge.of l.judge ≡ g.J.Judge.of l.fn.judge)
     × ((more : List Finding) × (l.told.items ≡ l.fn.told.items ++ more))
 
-abbrev pub decreases-loop-monitor : goal.decreases-loop-monitor
-decreases-loop-monitor g l =
+abbrev pub decreases-loop : goal.decreases-loop
+decreases-loop g l =
     (length l.fn.trace.entries - l.monitor.entries) + (length l.fn.trace.commits - l.monitor.commits)
