@@ -1,5 +1,5 @@
 #!/usr/bin/env python3
-"""A log of so many checks, as tools/import_trace takes it from an empty store.
+"""A log of so many checks, as `tools/ne import` takes it from an empty store.
 
     python3 bench/log.py KIND CHECKS > log
 

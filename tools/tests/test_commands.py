@@ -1,8 +1,6 @@
-"""The commands of `tools/ne`: their help, their statuses, their old names, and what they say on a terminal."""
+"""The commands of `tools/ne`: their help, their statuses, and what they say on a terminal."""
 import os
-import pty
 import subprocess
-import sys
 from typing import Sequence
 from unittest import mock
 
@@ -15,7 +13,6 @@ TRACE = os.path.join(EXAMPLES, "each_finding")
 LOG = os.path.join(EXAMPLES, "openfga", "log.jsonl")
 MODEL = os.path.join(EXAMPLES, "openfga", "model.fga")
 REPORT = "line 5: F1 stale\nentries 11\nfindings 1\nverdict dirty\n"
-OLD = {"import_trace": "import", "make_evidence": "make-evidence", **{name: name for name in ("lint", "parts", "report", "explain", "draw")}}
 
 
 def run(words: Sequence[str], **how: object) -> Run:
@@ -30,6 +27,9 @@ class Commands(Case):
             said = self.run_tool(*words, "--help")
             self.assertEqual((said.returncode, said.stderr), (0, ""), words)
             self.assertEqual(said.stdout.split(" [-h]")[0], "usage: " + " ".join(["ne", *words]))
+
+    def test_it_may_be_executed(self) -> None:
+        self.assertEqual(run([os.path.join(TOOLS, "ne"), "--help"])[::2], (0, ""))
 
     def test_the_list(self) -> None:
         said = self.run_tool("--help").stdout
@@ -49,35 +49,6 @@ class Commands(Case):
             said = self.run_tool(*words)
             self.assertEqual((said.returncode, said.stdout), (2 if words[1] == "run" else 5, ""), words)
             self.assertRegex(said.stderr, "none")
-
-
-class OldNames(Case):
-    def words(self) -> list[list[str]]:
-        """Of each old name words that work, that are refused, and that ask for help."""
-        self.put("report", REPORT)
-        return [["import_trace", "openfga", "--model", MODEL, "--from-empty", LOG], ["import_trace", "openfga"], ["lint", TRACE], ["lint", "none"],
-                ["make_evidence", TRACE], ["parts", "merge", "none"], ["report", "--form", "text", TRACE, "report"], ["report", TRACE, TRACE],
-                ["explain", TRACE], ["explain", TRACE, "1"], ["draw", TRACE, "3"], *([name, "--help"] for name in OLD)]
-
-    def test_they_work_as_the_new_ones(self) -> None:
-        for name, *words in self.words():
-            old = run([sys.executable, os.path.join(TOOLS, name), *words], cwd=self.room)
-            self.assertEqual(old, run([sys.executable, os.path.join(TOOLS, "ne"), OLD[name], *words], cwd=self.room), (name, words))
-            self.assertNotIn("old name", old.stdout + old.stderr)
-
-    def test_each_may_be_executed(self) -> None:
-        for name in ("ne", "test", *OLD):
-            self.assertEqual(run([os.path.join(TOOLS, name), "--help"])[::2], (0, ""), name)
-
-    def test_one_line_on_a_terminal(self) -> None:
-        for name, command in OLD.items():
-            parent, child = pty.openpty()
-            ended = subprocess.run([sys.executable, os.path.join(TOOLS, name), "--help"], stdout=subprocess.PIPE, stderr=child, timeout=300)
-            os.close(child)
-            self.assertEqual(os.read(parent, 1 << 16).decode(),
-                             "tools/%s is `tools/ne %s` now; the old name goes with the next release\r\n" % (name, command))
-            os.close(parent)
-            self.assertEqual((ended.returncode, ended.stdout.decode()), (0, self.run_tool(command, "--help").stdout))
 
 
 class DevelopersTools(Case):

@@ -37,7 +37,7 @@ class Pictures(unittest.TestCase):
 
 class Readme(unittest.TestCase):
     def test_it_is_short(self) -> None:
-        self.assertLess(read("README.md").count("\n"), 130)
+        self.assertLessEqual(read("README.md").count("\n"), 100)
 
     def test_the_time_of_the_gate_is_that_of_its_page(self) -> None:
         found = re.search(r"(\d+) minutes on (\d) cores", read("README.md"))

@@ -1,11 +1,10 @@
 """One command for all that users call: ne COMMAND WORD .."""
 import importlib
-import sys
 from argparse import SUPPRESS
-from typing import NamedTuple, NoReturn
+from typing import NamedTuple
 
 from new_enemy_tools import VERSION
-from new_enemy_tools.commands.running import Parser, ended, run
+from new_enemy_tools.commands.running import Parser, ended
 
 
 class Command(NamedTuple):
@@ -45,10 +44,3 @@ def main(words: list[str]) -> int:
     name = words[0] if words and words[0] in COMMANDS else parser().parse_args(words[:1]).command
     command = importlib.import_module("new_enemy_tools." + COMMANDS[name].module)
     return ended(command.main, words[1:])
-
-
-def run_as(old: str, name: str) -> NoReturn:
-    """Runs a command by the name of the tool that it was."""
-    if sys.stderr.isatty():
-        sys.stderr.write("tools/%s is `tools/ne %s` now; the old name goes with the next release\n" % (old, name))
-    run(lambda: main([name, *sys.argv[1:]]))
