@@ -16,7 +16,7 @@ from tests.support import Case
 # Words of a command line, the last one not yet whole, and what is offered for it.
 BASH = ((("ne", "rep"), {"report"}), (("ne", "report", "--form", "s"), {"sarif"}), (("ne", "import", ""), {"openfga", "spicedb", "events"}),
         (("ne", "import", "openfga", "--mod"), {"--model"}), (("ne", "import", "openfga", "--model", ""), set()),
-        (("ne", "parts", "cut", "--j"), {"--jobs"}), (("ne", "lint", ""), set()), (("new_enemy", ""), {"audit", "make", "history"}),
+        (("ne", "parts", "cut", "--j"), {"--jobs"}), (("ne", "lint", ""), set()), (("new_enemy", ""), {"audit", "make", "history", "follow"}),
         (("new_enemy", "audit", "--w"), {"--workers"}), (("new_enemy", "make", "--l"), {"--list"}), (("new_enemy", "history", "--l"), set()))
 # A function `of` gets the words, and prints what is offered.
 BASH_SCRIPT = """
@@ -38,7 +38,7 @@ ZSH = ((("ne", "rep"), set(ne.COMMANDS)), (("ne", "draw", "--form", ""), {"dot",
        (("ne", "import", "openfga", "--model", ""), {"FILES"}), (("new_enemy", "make", "-"), {"--list", "-h", "--help"}))
 FISH = ((("ne", "rep"), {"report"}), (("ne", "report", "--form", "s"), {"sarif"}), (("ne", "import", ""), {"openfga", "spicedb", "events"}),
         (("ne", "import", "openfga", "--mod"), {"--model"}), (("ne", "parts", "cut", "--j"), {"--jobs"}),
-        (("new_enemy", ""), {"audit", "make", "history"}), (("new_enemy", "audit", "--w"), {"--workers"}))
+        (("new_enemy", ""), {"audit", "make", "history", "follow"}), (("new_enemy", "audit", "--w"), {"--workers"}))
 
 
 class Completions(Case):

@@ -10,7 +10,7 @@ from tests.support import EXAMPLES, Case
 CLEAN = b"entries 1\nfindings 0\nverdict clean\n"
 UNREAD = Answer(5, b"", b"read fault\n")
 COMMANDS = (("audit", "t", "e"), ("audit", "t", "e", "--workers", "4"), ("audit", "t", "e", "--early"), ("audit", "t", "--make"),
-            ("make", "t"), ("history", "t", "doc:readme#viewer@10"))
+            ("make", "t"), ("history", "t", "doc:readme#viewer@10"), ("follow", "t"), ("follow", "t", "--heartbeat"))
 UNWRITTEN = Answer(5, b"", b"write fault after 0 bytes\n")
 REFUSED = b"\xff\n---\n"
 ENTRIES = 4000
@@ -103,7 +103,8 @@ class Devices(Case):
         self.put("t", trace)
         self.put("e", evidence)
         for words, told in ((("audit", "/dev/stdin", "e"), b"trace line 1: too long\n"), (("audit", "t", "/dev/stdin"), b"evidence line 1: too long\n"),
-                            (("make", "/dev/stdin"), b"trace line 1: too long\n"), (("history", "/dev/stdin", "doc:a#viewer@1"), b"trace line 1: too long\n")):
+                            (("make", "/dev/stdin"), b"trace line 1: too long\n"), (("history", "/dev/stdin", "doc:a#viewer@1"), b"trace line 1: too long\n"),
+                            (("follow",), b"trace line 1: too long\n")):
             with open("/dev/zero", "rb") as zeros, subprocess.Popen(["tr", "\\0", " "], stdin=zeros, stdout=subprocess.PIPE) as spaces:
                 run = subprocess.run([self.program, *words], cwd=self.room, stdin=spaces.stdout, capture_output=True, timeout=300)
                 spaces.stdout.close()
@@ -180,7 +181,7 @@ class Devices(Case):
 
     def test_help(self):
         """Help and the version go to standard output."""
-        for words in ((b"--help",), (b"audit", b"--help"), (b"history", b"--help"), (b"--version",)):
+        for words in ((b"--help",), (b"audit", b"--help"), (b"history", b"--help"), (b"follow", b"--help"), (b"--version",)):
             run = self.run_words(*words)
             self.assertEqual((run.returncode, run.stderr), (0, b""), words)
             self.assertNotEqual(run.stdout, b"", words)

@@ -152,7 +152,8 @@ class Used(Case):
             self.assertIn(word, page)
 
 
-PROGRAM_WORDS = ["new_enemy audit", "new_enemy make", "new_enemy history", "--workers", "--early", "--list", "/dev/stdin", "EXIT STATUS", "a device failed"]
+PROGRAM_WORDS = ["new_enemy audit", "new_enemy make", "new_enemy history", "new_enemy follow", "--workers", "--early", "--list", "--heartbeat", "/dev/stdin",
+                 "EXIT STATUS", "a device failed"]
 
 
 class Tarball(Used):

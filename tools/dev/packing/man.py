@@ -93,7 +93,8 @@ Examples:
     new_enemy audit trace.jsonl --make
     new_enemy make trace.jsonl > evidence.jsonl
     new_enemy audit trace.jsonl evidence.jsonl --workers 4
-    new_enemy history trace.jsonl doc:plan#viewer@20"""
+    new_enemy history trace.jsonl doc:plan#viewer@20
+    tail -n +1 -F trace.jsonl | new_enemy follow --heartbeat"""
 ABOUT_TOOLS = """Tools in Python, tested and not proved: they make traces of the logs of a service, and say what the findings of an audit mean. \
 Their own texts call the command ne.
 
