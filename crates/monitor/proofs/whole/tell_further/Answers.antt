@@ -16,9 +16,9 @@ gone : (o : Option ℕ) → is_some o ≡ false → o ≡ None
 gone None h = refl
 gone (Some k) h = cc
 
-further : (old mid new : List Finding) → ((more : List Finding) × (mid ≡ old ++ more)) → {told : List Finding} → new ≡ mid ++ told
+further : (old mid new : List Finding) → ((more : List Finding) × (mid ≡ old ++ more)) → (told : List Finding) → new ≡ mid ++ told
     → (more : List Finding) × (new ≡ old ++ more)
-further old mid new (more, is) {told} then =
+further old mid new (more, is) told then =
     (more ++ told, then ∙ ap (λ (fs : List Finding). fs ++ told) is ∙ append_assoc old more told)
 
 pub loop-init : goal.loop-init
@@ -36,7 +36,7 @@ loop-preserved g c =
           (subst (λ (o : Option ℕ). IfSome o (λ k. Tells g.J.Judge.allows t k c.loop.told.items c.take.new.told.items)) line.1
           c.in_ok-take.ensures.told),
       c.in_ok-take.ensures.judge ∙ c.loop.invariant.2,
-      further c.args.told.now.items c.loop.told.items c.take.new.told.items c.loop.invariant.3
+      further c.args.told.now.items c.loop.told.items c.take.new.told.items c.loop.invariant.3 _
           (subst (λ (o : Option ℕ). IfSome o (λ k. Tells g.J.Judge.allows t k c.loop.told.items c.take.new.told.items)) line.1
           c.in_ok-take.ensures.told).2,
     )
