@@ -1,3 +1,4 @@
+pub mod FollowerLemmas
 pub mod GrownLemmas
 pub mod MadeLemmas
 pub mod RunLemmas
