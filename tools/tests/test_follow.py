@@ -292,8 +292,9 @@ class Following(Case):
             with self.subTest(number=number):
                 trace = self.trace(data)
                 self.assert_at_once(data, trace)
-                self.assert_in_chunks(trace, data, Random("rows %d" % number))
-                self.assert_by_lines(trace, data, "--heartbeat")
+                if len(data) < SHORT:
+                    self.assert_in_chunks(trace, data, Random("rows %d" % number))
+                    self.assert_by_lines(trace, data, "--heartbeat")
 
     def test_joined_cases(self) -> None:
         """The traces of joined input, which have hardly a finding that waits, and nearly all faults of lines."""
