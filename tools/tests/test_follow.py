@@ -10,10 +10,13 @@ import signal
 import subprocess
 import time
 import unittest
+from concurrent.futures import ThreadPoolExecutor
+from itertools import count
 from random import Random
 from typing import NamedTuple, Optional
 
-from hostile.inputs import command_cases
+from hostile.inputs import command_cases, worked_cases
+from new_enemy_tools.files import split_joined
 from new_enemy_tools.findings import Finding, read_report
 from tests.random_traces import RandomInput
 from tests.support import Case
@@ -21,7 +24,7 @@ from tests.test_effects import ChangingInput
 
 RANDOM_TRACES = int(os.environ.get("RANDOM_FOLLOWED", "40"))
 SECONDS = 30
-MOST = 65_536
+MOST, SHORT = 2_000_000, 10_000
 AT_ONCE = ("F1", "F2", "F3", "F5", "F6")
 BLANK = b" \t\r"
 BEAT = re.compile(rb"through line ([0-9]+): ([0-9]+) entries, ([0-9]+) findings, ([0-9]+) open\n")
@@ -89,12 +92,13 @@ class Following(Case):
     def setUp(self) -> None:
         super().setUp()
         self.program = os.environ["NEW_ENEMY"]
+        self.numbers = count()
         asked = subprocess.run([self.program, "follow", "--help"], capture_output=True, timeout=SECONDS)
         if asked.returncode == 3 and b"unrecognized subcommand 'follow'" in asked.stderr:
             self.skipTest("the program has no command follow")
 
     def audit(self, data: bytes) -> "subprocess.CompletedProcess[bytes]":
-        return subprocess.run([self.program, "audit", self.put("audited", data), "--make"], capture_output=True, timeout=SECONDS)
+        return subprocess.run([self.program, "audit", "/dev/stdin", "--make"], input=data, capture_output=True, timeout=SECONDS)
 
     def trace(self, data: bytes) -> Trace:
         """What has to be told of a trace; of one that is refused, before that line."""
@@ -132,7 +136,7 @@ class Following(Case):
             given.append(b"\n".join(lines) + (b"\n" if number % 4 else b""))
         return given
 
-    def small_rows(self) -> list[bytes]:
+    def rows_of_traces(self) -> list[bytes]:
         """The traces of the worked cases of `audit TRACE --make`, and of `make`, each once."""
         given = []
         for case in command_cases():
@@ -202,7 +206,7 @@ class Following(Case):
 
     def assert_heartbeats(self, trace: Trace, said: bytes) -> int:
         """Each heartbeat is that of some line up to which all was told before it; gives how many there are."""
-        last, count, at, told = 0, 0, 0, b""
+        last, beats, at, told = 0, 0, 0, b""
         lines = said.splitlines(True)
         for place, text in enumerate(lines):
             found = BEAT.fullmatch(text)
@@ -217,12 +221,12 @@ class Following(Case):
             for later in lines[place + 1:]:
                 named = re.match(rb"line ([0-9]+): ", later)
                 self.assertFalse(named and int(named[1]) <= beat.line, (beat, later))
-            at, last, count = fitting[0], beat.line, count + 1
-        return count
+            at, last, beats = fitting[0], beat.line, beats + 1
+        return beats
 
     def assert_at_once(self, data: bytes, trace: Trace) -> int:
         """From a file, with and without heartbeats."""
-        path = self.put("followed", data)
+        path = self.put("followed_%d" % next(self.numbers), data)
         plain = subprocess.run([self.program, "follow", path], capture_output=True, timeout=SECONDS)
         beaten = subprocess.run([self.program, "follow", path, "--heartbeat"], capture_output=True, timeout=SECONDS)
         for run in (plain, beaten):
@@ -284,12 +288,26 @@ class Following(Case):
         self.assertGreater(min(beats, refused, left), 0)
 
     def test_worked_cases(self) -> None:
-        for number, data in enumerate(self.small_rows()):
+        for number, data in enumerate(self.rows_of_traces()):
             with self.subTest(number=number):
                 trace = self.trace(data)
                 self.assert_at_once(data, trace)
-                self.assert_in_chunks(trace, data, Random("rows %d" % number))
-                self.assert_by_lines(trace, data, "--heartbeat")
+                if len(data) < SHORT:
+                    self.assert_in_chunks(trace, data, Random("rows %d" % number))
+                    self.assert_by_lines(trace, data, "--heartbeat")
+
+    def test_joined_cases(self) -> None:
+        """The traces of joined input, which have hardly a finding that waits, and nearly all faults of lines."""
+        traces = dict.fromkeys(split_joined(case.data)[0] for case in worked_cases() if len(case.data) < SHORT)
+        with ThreadPoolExecutor(4) as pool:
+            statuses = list(pool.map(self.answered, traces))
+        for status in (0, 1, 2):
+            self.assertGreater(statuses.count(status), 50)
+
+    def answered(self, data: bytes) -> int:
+        trace = self.trace(data)
+        self.assert_at_once(data, trace)
+        return trace.status
 
     def test_killed(self) -> None:
         """What was told before is a part of the report."""
