@@ -1,11 +1,12 @@
 -- What a follower takes and tells.
-use Rattle.std.proofs.Common.{◌≡◌, ℕ, zero, suc, ◌+◌, ◌-◌, ◌<◌, ◌≤◌, inl, inr, Bool, true, List, [], ◌∷◌, ◌++◌, length, map, take, drop, Option, Some, sym, ◌∙◌, ap, subst, arith, append_assoc, length-append}
+use Rattle.std.proofs.Common.{◌≡◌, ◌||◌, false, refl, ℕ, zero, suc, ◌+◌, ◌-◌, ◌<◌, ◌≤◌, inl, inr, Bool, true, List, [], ◌∷◌, ◌++◌, length, map, take, drop, Option, Some, sym, ◌∙◌, ap, subst, arith, append_assoc, length-append}
 use Rattle.std.specs.Prelude.{slice_get, nat_le}
 use Rattle.std.specs.List.{list_any}
 use Rattle.std.specs.List.Sorted.{IsStrictlyIncreasing}
 use Rattle.std.proofs.Math.Seq.{drop-append_seam, take-length}
 use Rattle.std.proofs.lemmas.Bool.{cases_lt}
 use Rattle.std.proofs.lemmas.Option.{slice_get_within}
+use Rattle.version_chains.specs.Commits.{Commit}
 use Rattle.trace_lines.specs.Values.{EntryValue, TraceValue, entry_lines}
 use Rattle.findings.specs.declared.finding.Finding.{Finding}
 use Rattle.windows.specs.Growth.{IsSettled}
@@ -75,3 +76,23 @@ cut_behind old more whole n is same =
     ∙ ap (λ (k : ℕ). take (length (old ++ more) - k) (drop k (old ++ more))) same
     ∙ ap (take (length (old ++ more) - length old)) (drop-append_seam old more)
     ∙ ap (λ (k : ℕ). take k more) rest ∙ take-length more
+
+-- a commit at or above the timestamp is among those whose timestamps are these
+any_at : (at : ℕ) (cs : List Commit) (k x : ℕ) → slice_get (map (λ c. c.at) cs) k ≡ Some x → nat_le at x ≡ true
+    → list_any (λ (c : Commit). nat_le at c.at) cs ≡ true
+any_at at [] k x is le = cc
+any_at at (c ∷ cs) zero x is le =
+    let same : c.at ≡ x = cc in
+    ap (λ (n : ℕ). nat_le at n || list_any (λ (d : Commit). nat_le at d.at) cs) same
+    ∙ ap (λ (b : Bool). b || list_any (λ (d : Commit). nat_le at d.at) cs) le
+any_at at (c ∷ cs) (suc k) x is le =
+    ap (λ (b : Bool). nat_le at c.at || b) (any_at at cs k x is le) ∙ or_true (nat_le at c.at)
+  where
+    or_true : (b : Bool) → (b || true) ≡ true
+    or_true true = refl
+    or_true false = refl
+
+pub reached_by : (cs : List Commit) (at : ℕ) (times : List ℕ) (k x : ℕ) → times ≡ map (λ (c : Commit). c.at) cs
+    → slice_get times k ≡ Some x → nat_le at x ≡ true → list_any (λ (c : Commit). nat_le at c.at) cs ≡ true
+reached_by cs at times k x same is le =
+    any_at at cs k x (ap (λ (ts : List ℕ). slice_get ts k) (sym same) ∙ is) le

@@ -17,7 +17,7 @@ use Rattle.trace_lines.proofs.LinesSoFar.{said_so_far}
 use Rattle.trace_lines.proofs.OfBytes.{commits_placed, lines_of_bytes}
 use Rattle.trace_lines.proofs.TraceTold.{trace_taken}
 use Rattle.findings.proofs.EachEntryLemmas.{formed_by_bytes}
-use Rattle.windows.specs.Growth.{IsSettled}
+use Rattle.windows.specs.Growth.{GoesOn, IsSettled}
 use Rattle.windows.proofs.GrowthLemmas.{begins}
 use Rattle.follow_laws.specs.Begun.{Begins, IsOfBytes}
 use Rattle.monitor.specs.Standing.{IsAtEnd}
@@ -32,17 +32,20 @@ use Rattle.follow.proofs.MadeLemmas.{made_still}
 
 pub first_lines : {R : Type 0} (given : R → List ℕ) (ends failures : R → ℕ) (remaining : R → Option (List ℕ)) (first : R)
     (t : TraceValue) (r : LineReader) → t ≡ empty_trace → r.lines ≡ [] → r.number ≡ 1 → r.room ≡ 2 ^ 30
-    → IsTraceSoFar given ends failures remaining first first t r
-first_lines given ends failures remaining first t r empty none number room = record {
-  used = [];
-  whole = λ later. absurd (omega (arith, later, number));
-  gave = sym (ap (λ (l : List ℕ). (given first ++ []) ++ l) none ∙ append-nil (given first ++ []) ∙ append-nil (given first));
-  fits = omega (arith, room);
-  follows = rw (number, room, empty) (goes_first trace_taken empty_trace);
-  known = next-refl given ends remaining first;
-  going = refl;
-  kept = refl;
-}
+    → (so_far : IsTraceSoFar given ends failures remaining first first t r) × (so_far.used ≡ [])
+first_lines given ends failures remaining first t r empty none number room = (
+  record {
+    used = [];
+    whole = λ later. absurd (omega (arith, later, number));
+    gave = sym (ap (λ (l : List ℕ). (given first ++ []) ++ l) none ∙ append-nil (given first ++ []) ∙ append-nil (given first));
+    fits = omega (arith, room);
+    follows = rw (number, room, empty) (goes_first trace_taken empty_trace);
+    known = next-refl given ends remaining first;
+    going = refl;
+    kept = refl;
+  },
+  refl,
+)
 
 pub said_lines : {R : Type 0} (given : R → List ℕ) (ends failures : R → ℕ) (remaining : R → Option (List ℕ))
     (first now : R) (t : TraceValue) (r : LineReader) (so_far : IsTraceSoFar given ends failures remaining first now t r)
@@ -104,6 +107,7 @@ followed_longer a more t u f one two here there followed ended = record {
       (sym (same_entry t u b.goes here there i (omega (arith, lt, le))) ∙ at) lt);
 }
   where
+    first : (x : TraceValue) × (trace_of true (a ++ 10 ∷ []) ≡ Ok x) × GoesOn (length (parts a)) x u
     first = begins a more u two
 
     same : first.0 ≡ t

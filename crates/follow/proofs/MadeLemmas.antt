@@ -56,8 +56,8 @@ module _ {k : ℕ} (t u : TraceValue) (b : Begins k t u) (i : ℕ) (e : EntryVal
   }
 
   more_still : (IsOneStep t e → ⊥) → IsOneStep u e → ⊥
-  more_still more (inl yes) = more (inl (back (λ r s. IsAccepted r s nothing_known (yes_step e.goal)) yes))
-  more_still more (inr no) = more (inr (back (λ r s. IsAccepted r s nothing_known (no_step (e.goal ∷ []))) no))
+  more_still more (inl holds) = more (inl (back (λ r s. IsAccepted r s nothing_known (yes_step e.goal)) holds))
+  more_still more (inr fails) = more (inr (back (λ r s. IsAccepted r s nothing_known (no_step (e.goal ∷ []))) fails))
 
   decided_still : (steps : List StepValue) → IsDecided t e steps → IsDecided u e steps
   decided_still steps (inl supported) =

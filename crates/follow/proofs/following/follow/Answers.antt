@@ -24,11 +24,16 @@ returns-in_err-lines-clause-followed g c =
 
 pub loop-follower-init : goal.loop-follower-init
 loop-follower-init g c =
-    let made = c.in_ok-lines.ensures in record {
+    let made = c.in_ok-lines.ensures in
+    let start = g.W.Sink.taken c.args.out.now in
+    let first =
+    first_lines g.A.Source.given g.A.Source.ends g.A.Source.failures g.A.Read.remaining c.args.trace.now c.new-log.result
+    c.in_ok-lines.lines c.new-log.ensures made.0 made.1 made.2 in
+    record {
       run = (
-        first_lines g.A.Source.given g.A.Source.ends g.A.Source.failures g.A.Read.remaining c.args.trace.now c.new-log.result
-            c.in_ok-lines.lines c.new-log.ensures made.0 made.1 made.2,
-        run_first c.new-follower.result (g.W.Sink.taken c.args.out.now) c.new-follower.ensures.told c.new-follower.ensures.followed,
+        first.0,
+        subst (λ (used : List ℕ). IsRunSoFar used start start c.new-follower.result) (sym first.1)
+            (run_first c.new-follower.result start c.new-follower.ensures.told c.new-follower.ensures.followed),
       );
       next = subst (λ (t : TraceValue). next_line t ≤ c.in_ok-lines.lines.number) (sym c.new-log.ensures)
           (omega (arith, made.1));

@@ -3,8 +3,13 @@ use Rattle.trace_lines.specs.Placed.{AreInPlace}
 use Rattle.trace_lines.specs.Values.{TraceValue}
 use Rattle.monitor.specs.Standing.{IsAtEnd}
 use Rattle.follow.specs.SoFar.{IsFollowed}
-use Rattle.audit.proofs.Answering.{told-map}
+use Rattle.audit.specs.Parts.{Told}
+use Rattle.audit.proofs.Answering.{told-map, told_no_memory}
+use Rattle.audit.proofs.KindLemmas.{handed_on}
 use Rattle.follow.proofs.following.tell.Goals as goal
+
+pub returns-in_err-text : goal.returns-in_err-text
+returns-in_err-text g c = handed_on (Told _ _) _ c.from_residual.ensures.1 (told_no_memory _ _)
 
 pub returns : goal.returns
 returns g c =
