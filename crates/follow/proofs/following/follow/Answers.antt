@@ -1,12 +1,13 @@
-use Rattle.std.proofs.Common.{◌≡◌, ◌∙◌, ◌+◌, ◌≤◌, ℕ, Bool, List, [], ◌++◌, true, false, Result, Ok, append_assoc, arith, refl, sym, ap, subst, append-nil}
+use Rattle.std.proofs.Common.{◌≡◌, ◌∙◌, ◌+◌, ◌≤◌, ℕ, Bool, List, [], ◌∷◌, ◌++◌, true, false, Result, Ok, append_assoc, arith, refl, sym, ap, subst, append-nil}
 use Rattle.std.proofs.lemmas.Bool.{true≢false}
 use Rattle.std.proofs.lemmas.List.{append_cancel_left}
 use Rattle.trace_lines.specs.TraceReads.{IsTraceSoFar}
 use Rattle.trace_lines.specs.Traces.{trace_of}
 use Rattle.trace_lines.specs.Values.{TraceValue, next_line}
 use Rattle.audit.specs.Devices.{reader, reads, writer}
+use Rattle.audit.specs.Kinds as kind
 use Rattle.audit.specs.declared.plain.AuditFault.TheVariants as faults
-use Rattle.audit.proofs.KindLemmas.{handed_on}
+use Rattle.audit.proofs.KindLemmas.{handed_on, kinds-more}
 use Rattle.audit.proofs.Readers.{behind_at_rest, few_at_rest, next_at_rest}
 use Rattle.follow.specs.Following.{Followed}
 use Rattle.follow.proofs.GrownLemmas.{first_lines, said_lines}
@@ -234,3 +235,8 @@ returns-clause-followed g c =
     (text_told came start (g.W.Sink.taken c.loop-follower.out) c.loop-follower.follower c.tell-2.new.follower now.text
     c.take_line.new.builder read.given.1.2 told.text.0 told.text.1.1 (g.W.Sink.taken c.tell-2.new.out) told.text.2)
     c.tell_end.ensures.right c.tell_end.ensures.told
+
+pub returns-clause-kinds : goal.returns-clause-kinds
+returns-clause-kinds g c =
+    kinds-more (kind.write ∷ kind.memory ∷ []) (kind.trace ∷ kind.write ∷ kind.memory ∷ []) refl c.tell_end.result
+    c.tell_end.ensures.told.kinds
