@@ -15,7 +15,7 @@ TUPLES = 1000
 
 def time_text(at: int) -> str:
     """Nanoseconds since 1970 as RFC 3339, to microseconds."""
-    return datetime.fromtimestamp(at // 1000 / 1e6, timezone.utc).strftime("%Y-%m-%dT%H:%M:%S.%fZ")
+    return datetime.fromtimestamp(at // 1000 / 1e6, timezone.utc).isoformat(timespec="microseconds")[:-6] + "Z"
 
 
 def line(event: str, **values: Any) -> bytes:

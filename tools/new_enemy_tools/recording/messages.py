@@ -4,17 +4,16 @@ import socket
 import struct
 import time
 from collections import Counter, deque
-from io import BufferedReader
 from itertools import islice
-from typing import Any, BinaryIO, Iterator, NamedTuple, Optional
+from typing import Any, Iterator, NamedTuple, Optional
 
 SIZE = struct.Struct("<I")
 # Calls that decide.
 CHECKS = frozenset(("check", "batch", "list", "stream"))
 # Calls that are told when they are passed on.
 TOLD = CHECKS | {"write"}
-# So many messages are written at once.
-AT_ONCE = 64
+# So many messages are written at once, and so many bytes read.
+AT_ONCE, READ = 64, 1 << 16
 # So many bytes may wait for the keeper.
 ROOM = 64 << 20
 
@@ -77,10 +76,11 @@ class Key(NamedTuple):
 
 
 KINDS = (Started, Ended, Lost, Beat, Bye, Key)
+NUMBERS = {kind: number for number, kind in enumerate(KINDS)}
 
 
 def packed(message: tuple[Any, ...]) -> bytes:
-    data = marshal.dumps((KINDS.index(type(message)), *message))
+    data = marshal.dumps((NUMBERS[type(message)], *message))
     return SIZE.pack(len(data)) + data
 
 
@@ -163,20 +163,23 @@ class Teller:
             self.lose("the keeper of the log was gone")
 
 
-def messages_from(end: socket.socket) -> Iterator[tuple[Any, ...]]:
-    """What the other side tells, until it is gone."""
-    file = BufferedReader(end.makefile("rb", 0), 1 << 16)
-    while len(head := _read(file, SIZE.size)) == SIZE.size:
-        data = _read(file, SIZE.unpack(head)[0])
-        if len(data) < SIZE.unpack(head)[0]:
+def messages_from(end: socket.socket) -> Iterator[list[tuple[Any, ...]]]:
+    """What the other side tells, together what came at once, until it is gone."""
+    data = bytearray()
+    while True:
+        try:
+            came = end.recv(READ)
+        except OSError:
+            # The other side is gone in the midst of what was told it.
             return
-        kind, *values = marshal.loads(data)
-        yield KINDS[kind](*values)
-
-
-def _read(file: BinaryIO, size: int) -> bytes:
-    """So many bytes, or fewer where the other side is gone: in the midst of what was told it, that is a fault, and not an end."""
-    try:
-        return file.read(size)
-    except OSError:
-        return b""
+        if not came:
+            return
+        data += came
+        found, at = [], 0
+        while len(data) >= at + SIZE.size and len(data) >= (behind := at + SIZE.size + SIZE.unpack_from(data, at)[0]):
+            kind, *values = marshal.loads(data[at + SIZE.size:behind])
+            found.append(KINDS[kind](*values))
+            at = behind
+        del data[:at]
+        if found:
+            yield found
