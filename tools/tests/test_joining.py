@@ -123,6 +123,19 @@ class Parts(Case):
         far = lines(change(1, "b", at=2), {**check(1, 6), "goal": ["document", "e", "viewer", "user", "a"]}, change(2, "a", at=1))
         self.assertEqual(events(joined(first, far))[2:], [("write", 1), ("write", 2), ("check", 2)])
 
+    def test_a_change_that_a_recorder_read_too_late(self):
+        """A tuple that was there went and came. One recorder read first that it came; what another saw, and a later one begins with, is that it is there."""
+        def with_base(rows):
+            rows[3]["add"] = [["document", "d", "viewer", "user", "a"]]
+            return rows
+        late = with_base(lines(change(1, "a", at=2), change(2, "a", "remove", at=1)))
+        right = with_base(lines(change(1, "a", "remove", at=1), change(2, "a", at=2), check(2, 5)))
+        later = with_base(lines(check(0, 9), changes=2))
+        for logs in ((late, right, later), (right, late, later)):
+            made = joined(*logs)[2:]
+            self.assertEqual([tuple(side for side in ("add", "remove") if side in row) for row in made[:2]], [("remove",), ("add",)])
+            self.assertEqual(events(made), [("write", 1), ("write", 2), ("check", 2), ("check", 2)])
+
     def test_content_between_changes_whose_order_differs(self):
         """It stands behind all that its recorder knew; where that is more than it saw, it is left out, with its version."""
         content = check(1, 6, "content", version="v", token=1)

@@ -176,17 +176,13 @@ class Spine:
 
     def _by_turns(self, groups: dict[int, list[int]], lead: list[int]) -> list[int]:
         """The groups in their order, but that each tuple comes and goes by turns; without those that go round in a circle by that."""
-        last: dict[Relationship, int] = {}
         behind: dict[int, list[int]] = {}
         waits = dict.fromkeys(groups, 0)
-        for one, change in enumerate(self.changes):
-            here = lead[one]
-            for given in change.tuples:
-                before = last.get(given, here)
-                if before != here:
-                    behind.setdefault(before, []).append(here)
-                    waits[here] += 1
-                last[given] = here
+        for turns in self._turns():
+            for before, here in zip(turns, turns[1:]):
+                if lead[before] != lead[here]:
+                    behind.setdefault(lead[before], []).append(lead[here])
+                    waits[lead[here]] += 1
         ready = [group for group, count in waits.items() if not count]
         heapq.heapify(ready)
         found: list[int] = []
@@ -198,6 +194,20 @@ class Spine:
                 if not waits[one]:
                     heapq.heappush(ready, one)
         return found
+
+    def _turns(self) -> Iterator[list[int]]:
+        """The changes of each tuple by turns. A recorder that read a change too late has it behind the next one of its tuple."""
+        of: dict[Relationship, list[int]] = {}
+        for one, change in enumerate(self.changes):
+            for given in change.tuples:
+                of.setdefault(given, []).append(one)
+        for given, listed in of.items():
+            sides = [deque(one for one in listed if bool(self.changes[one].value.get("add")) is comes) for comes in (False, True)]
+            is_there, turns = given in self.first.base, list[int]()
+            while sides[0] or sides[1]:
+                is_there = not is_there if sides[not is_there] else is_there
+                turns.append(sides[is_there].popleft())
+            yield turns
 
     def _added(self, sketch: Sketch) -> dict[int, int]:
         """Of each change of a log its own step."""
@@ -244,7 +254,9 @@ class Spine:
                             "before has ended" % (count - len(tuples)))
         found = set(tuples[:count]) | self._rules_in_base(sketch, [one for one in others if self.changes[one].is_rules])
         listed = [one for one in others if one in found]
-        refuse_other_base(sketch, state_of(self.first.base, [self.changes[one] for one in listed]), self.first.unformed)
+        turns = {one: place for turns in self._turns() for place, one in enumerate(turns)}
+        by_turns = sorted((one for one in listed if one in turns), key=lambda one: turns[one])
+        refuse_other_base(sketch, state_of(self.first.base, [self.changes[one] for one in by_turns]), self.first.unformed)
         return listed
 
     def _rules_in_base(self, sketch: Sketch, others: list[int]) -> set[int]:
