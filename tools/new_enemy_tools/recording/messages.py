@@ -175,7 +175,7 @@ def messages_from(end: socket.socket) -> Iterator[list[tuple[Any, ...]]]:
         if not came:
             return
         data += came
-        found, at = [], 0
+        found, at = list[tuple[Any, ...]](), 0
         while len(data) >= at + SIZE.size and len(data) >= (behind := at + SIZE.size + SIZE.unpack_from(data, at)[0]):
             kind, *values = marshal.loads(data[at + SIZE.size:behind])
             found.append(KINDS[kind](*values))

@@ -17,7 +17,7 @@ Call = Callable[[str, str], Optional[str]]
 UNREAD = 200
 # A longer request of a check goes on in pieces, and is a gap.
 HELD = 1 << 20
-LABELS = ("x-content-save", "x-content-version", "x-content-token")
+LABELS = {name: "x-content-" + name for name in ("save", "version", "token")}
 
 
 class Exchange:
@@ -32,7 +32,7 @@ class Exchange:
         # whether the service says first whether it wants the body
         self.waits = "expect" in head.values
         self.strange: Optional[str] = None
-        self.save, self.version, self.token = (self._label(head, name) if name in head.values else None for name in LABELS)
+        self.save, self.version, self.token = (self._label(head, name) if name in head.values else None for name in LABELS.values())
         self.request: Optional[bytes] = None
         self.status = 0
         self.encoding: Optional[str] = None
