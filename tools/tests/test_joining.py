@@ -136,6 +136,22 @@ class Parts(Case):
             self.assertEqual([tuple(side for side in ("add", "remove") if side in row) for row in made[:2]], [("remove",), ("add",)])
             self.assertEqual(events(made), [("write", 1), ("write", 2), ("check", 2), ("check", 2)])
 
+    def test_a_log_that_begins_with_the_later_of_two_changes(self):
+        """Which a recorder read at once, and has the other way round. What the later log saw is no state of the first, where both bear on the question."""
+        first = lines(change(1, "a"), change(2, "b"))
+
+        def later(goal):
+            rows = lines({**check(0, 9), "goal": goal}, changes=1)
+            rows[3]["add"] = [["document", "d", "viewer", "user", "b"]]
+            return rows
+        near, far = (["document", one, "viewer", "user", "b"] for one in "de")
+        self.assertEqual(events(joined(first, later(near)))[2:], [("write", 1), ("write", 2), ("unmapped", None)])
+        self.assertEqual(events(joined(first, later(far)))[2:], [("write", 1), ("write", 2), ("check", 2)])
+        # One that begins with what nobody wrote is of another store.
+        other = later(near)
+        other[3]["add"] = [["document", "d", "viewer", "user", "c"]]
+        self.assertIn("does not begin with what the other logs have there", self.refused(first, other))
+
     def test_content_between_changes_whose_order_differs(self):
         """It stands behind all that its recorder knew; where that is more than it saw, it is left out, with its version."""
         content = check(1, 6, "content", version="v", token=1)

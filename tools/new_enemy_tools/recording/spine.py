@@ -178,7 +178,7 @@ class Spine:
         """The groups in their order, but that each tuple comes and goes by turns; without those that go round in a circle by that."""
         behind: dict[int, list[int]] = {}
         waits = dict.fromkeys(groups, 0)
-        for turns in self._turns():
+        for turns in self._turns().values():
             for before, here in zip(turns, turns[1:]):
                 if lead[before] != lead[here]:
                     behind.setdefault(lead[before], []).append(lead[here])
@@ -195,7 +195,7 @@ class Spine:
                     heapq.heappush(ready, one)
         return found
 
-    def _turns(self) -> Iterator[list[int]]:
+    def _turns(self) -> dict[Relationship, list[int]]:
         """The changes of each tuple by turns. A recorder that read a change too late has it behind the next one of its tuple."""
         of: dict[Relationship, list[int]] = {}
         for one, change in enumerate(self.changes):
@@ -207,7 +207,8 @@ class Spine:
             while sides[0] or sides[1]:
                 is_there = not is_there if sides[not is_there] else is_there
                 turns.append(sides[is_there].popleft())
-            yield turns
+            of[given] = turns
+        return of
 
     def _added(self, sketch: Sketch) -> dict[int, int]:
         """Of each change of a log its own step."""
@@ -252,12 +253,40 @@ class Spine:
         if len(tuples) < count:
             raise Unreached(sketch.given.name, "begins with %d changes that no other log has; give logs of which each begins before the one "
                             "before has ended" % (count - len(tuples)))
-        found = set(tuples[:count]) | self._rules_in_base(sketch, [one for one in others if self.changes[one].is_rules])
-        listed = [one for one in others if one in found]
-        turns = {one: place for turns in self._turns() for place, one in enumerate(turns)}
-        by_turns = sorted((one for one in listed if one in turns), key=lambda one: turns[one])
-        refuse_other_base(sketch, state_of(self.first.base, [self.changes[one] for one in by_turns]), self.first.unformed)
-        return listed
+        turns = self._turns()
+        found = self._had(sketch, turns, tuples, count)
+        by_turns = [self.changes[one] for listed in turns.values() for one in listed if one in found]
+        refuse_other_base(sketch, state_of(self.first.base, by_turns), self.first.unformed)
+        found |= self._rules_in_base(sketch, [one for one in others if self.changes[one].is_rules])
+        return [one for one in others if one in found]
+
+    def _had(self, sketch: Sketch, turns: dict[Relationship, list[int]], others: list[int], count: int) -> set[int]:
+        """Of the changes that a log does not have, so many that it began with: the first ones, but that of changes that came at once a later one
+        may be in its base state, and an earlier one not. What has no form, no state tells of."""
+        had, rest, unformed = set(others[:count]), set(others[count:]), self.first.unformed | sketch.unformed
+        least: list[int] = []
+        most: list[int] = []
+        either: list[tuple[int, int]] = []
+        for given, listed in turns.items():
+            inside, behind = [one for one in listed if one in had], [one for one in listed if one in rest]
+            is_there = bool(self.changes[inside[-1]].value.get("add")) if inside else given in self.first.base
+            if is_there == (given in sketch.base) or given[:3] in unformed:
+                continue
+            if inside and behind:
+                either.append((behind[0], inside[-1]))
+            else:
+                least += behind[:1]
+                most += inside[-1:]
+        for more, less in sorted(either):
+            if len(least) <= len(most):
+                least.append(more)
+            else:
+                most.append(less)
+        apart = len(most) - len(least)
+        unread = [one for one in others if not self.changes[one].tuples]
+        least += [one for one in unread if one in rest][:max(0, apart)]
+        most += [one for one in reversed(unread) if one in had][:max(0, -apart)]
+        return had.union(least).difference(most) if len(least) == len(most) else had
 
     def _rules_in_base(self, sketch: Sketch, others: list[int]) -> set[int]:
         """The models that came up to that with which a log begins."""
