@@ -98,12 +98,7 @@ class Teller:
     def tell(self, message: tuple[Any, ...]) -> None:
         if isinstance(message, Ended):
             self.answered[message.call] += 1
-        if self._has_room():
-            if self.lost is not None:
-                self._add(packed(self.lost))
-                self.lost = None
-            self._add(packed(message))
-        else:
+        if not self._put(message):
             self.lose("the keeper of the log does not keep up" if self.end is not None else "the keeper of the log was gone")
         if not self.gathers:
             self.flush()
@@ -114,11 +109,7 @@ class Teller:
 
     def catch_up(self) -> None:
         """Tells what was lost and what waits, where there is room again, and that nothing else happened."""
-        if self._has_room():
-            if self.lost is not None:
-                self._add(packed(self.lost))
-                self.lost = None
-            self._add(packed(Beat(time.monotonic_ns())))
+        self._put(Beat(time.monotonic_ns()))
         self.flush()
 
     def lose(self, reason: str) -> None:
@@ -127,12 +118,15 @@ class Teller:
         before = self.lost
         self.lost = Lost(now if before is None else before.start, now, 1 if before is None else before.amount + 1, reason)
 
-    def _has_room(self) -> bool:
-        return self.end is not None and self.size < ROOM
-
-    def _add(self, data: bytes) -> None:
-        self.waiting.append(data)
-        self.size += len(data)
+    def _put(self, message: tuple[Any, ...]) -> bool:
+        """Keeps what is to be told, behind what was lost; False where there is no room."""
+        if self.end is None or self.size >= ROOM:
+            return False
+        for one in (message,) if self.lost is None else (self.lost, message):
+            self.waiting.append(packed(one))
+            self.size += len(self.waiting[-1])
+        self.lost = None
+        return True
 
     def flush(self) -> bool:
         """Writes what the socket takes; whether nothing waits."""
