@@ -134,6 +134,21 @@ class Raced(OpenFga):
         self.end(recorder)
         self.assertEqual(len(self.of_kind("check")), 3)
 
+    def test_labels_by_their_bytes(self):
+        """`\u00e0` and `\u00c5` end alike in UTF-8, as Latin-1 has it; what an application says in two ways is a gap."""
+        recorder = self.begin(0, 0)
+        self.write(self.client, key(USERS[0], "owner", EARLY[0]))
+        for headers in (b"Save: \xc3\xa0", b"Version: \xc3\xa0", b"Version: \xc3\x85", b"Version: a\r\nX-Content-Version: b", b"Save: c\r\nX-Content-Version: d"):
+            one = self.connected()
+            one.sendall(b"".join(self.request(headers=b"X-Content-%s\r\n" % headers)))
+            self.assertIn(b'"allowed": true', self.answer(one))
+            one.close()
+        self.end(recorder)
+        self.assertEqual([(kind, row["version"]) for kind in ("content", "check") for row in self.of_kind(kind)],
+                         [("content", "\u00e0"), ("check", "\u00e0"), ("check", "\u00c5")])
+        self.assertEqual(sorted((row["reason"], row["lost"]) for row in self.of_kind("gap") if row["reason"].startswith("X-")),
+                         [("X-Content-Save and X-Content-Version on one call", 1), ("X-Content-Version stands twice", 1)])
+
     def test_a_stray_end_of_a_line(self):
         """Whatever the service makes of it, no answer is taken for that of another request."""
         recorder = self.begin(0, 0)
