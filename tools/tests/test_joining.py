@@ -136,6 +136,13 @@ class Parts(Case):
             self.assertEqual([tuple(side for side in ("add", "remove") if side in row) for row in made[:2]], [("remove",), ("add",)])
             self.assertEqual(events(made), [("write", 1), ("write", 2), ("check", 2), ("check", 2)])
 
+    def test_a_change_that_no_recorder_read(self):
+        """A tuple that comes twice went between. What rests on it is in doubt, and no log is refused that begins with it or without it."""
+        first, later = lines(change(1, "a", at=1), change(2, "a", at=3)), lines(check(0, 9), changes=2)
+        made = joined(first, later)
+        self.assertEqual({tuple(row["userset"]) for row in made if row["event"] == "unmapped"}, {("document", "d", "viewer")})
+        self.assertEqual(events(made)[-1], ("check", 2))
+
     def test_a_log_that_begins_with_the_later_of_two_changes(self):
         """Which a recorder read at once, and has the other way round. What the later log saw is no state of the first, where both bear on the question."""
         first = lines(change(1, "a"), change(2, "b"))

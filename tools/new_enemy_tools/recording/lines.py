@@ -11,6 +11,7 @@ from new_enemy_tools.importing.times import text_of_time
 ENCODE = json.JSONEncoder(ensure_ascii=False, separators=(",", ":")).encode
 # So many tuples of the base state stand on a line.
 TUPLES = 1000
+ODD = "changes of a tuple that do not come by turns"
 
 
 def time_text(at: int) -> str:

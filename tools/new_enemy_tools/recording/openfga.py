@@ -24,7 +24,7 @@ from new_enemy_tools.recording.bearing import Bearing
 from new_enemy_tools.recording.bodies import UNHEARD, request_of, response_of
 from new_enemy_tools.recording.core import Asked, Begun, Core
 from new_enemy_tools.recording.grpc_calls import GRPC
-from new_enemy_tools.recording.lines import TUPLES, Came, base_lines, line, time_text, unmapped_line, write_line
+from new_enemy_tools.recording.lines import ODD, TUPLES, Came, base_lines, line, time_text, unmapped_line, write_line
 from new_enemy_tools.recording.log_files import Left, Place
 from new_enemy_tools.recording.messages import Ended, Started
 from new_enemy_tools.recording.overlap import Change, Read
@@ -48,7 +48,6 @@ TOLD = 10 ** 9
 # A check waits so long for a write without an answer, which it may have seen.
 OPEN = 2 * 10 ** 9
 UNSHOWN = "a write was answered that the changes did not show within %g seconds"
-ODD = "changes of a tuple that do not come by turns"
 UNORDERED = "changes that came at once, in an order that is not known"
 CONSISTENT = "a check with an unknown consistency"
 Rules = tuple[Optional[ServiceRules], Refusals]
@@ -230,6 +229,7 @@ class OpenFga:
     def _take_changes(self, message: Changes, core: Core) -> None:
         before = self.places.revision
         changes, odd = by_turns(message.read.changes, lambda change: None if change.given is None else self.live.get(change.given))
+        odd += [change for change in changes if change.is_late]
         rows = self._rows(changes, message)
         if message.read.changes and self.last[1] and message.is_single and not self.horizon:
             # What one page showed came before what it did not show.

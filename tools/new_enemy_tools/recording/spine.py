@@ -8,6 +8,7 @@ from collections import deque
 from typing import Any, Callable, Iterator, NamedTuple, Optional
 
 from new_enemy_tools.importing.events import Relationship
+from new_enemy_tools.recording.lines import ODD
 from new_enemy_tools.recording.sketches import Change, JoinFault, Sketch, Unreached, Value
 
 NEVER = 1 << 62
@@ -102,6 +103,8 @@ class Spine:
         self.together: list[list[int]] = []
         self.groups: list[list[int]] = []
         self.at: dict[int, int] = {}
+        # tuples that do not come by turns: of these it is not known whether they are there
+        self.odd: set[Relationship] = set()
         # changes of which it was said already what came at once with them
         self.fixed: set[int] = set()
         self.ranks = [self._added(first)]
@@ -122,6 +125,7 @@ class Spine:
         for one in self.groups[place - 1]:
             change = self.changes[one]
             yield from change.before
+            yield from ({"event": "unmapped", "reason": ODD, "detail": str(given), "userset": [*given[:3]]} for given in change.tuples if given in self.odd)
             yield {**change.value, "revision": self.number(place)}
             yield from change.behind
 
@@ -205,7 +209,10 @@ class Spine:
             sides = [deque(one for one in listed if bool(self.changes[one].value.get("add")) is comes) for comes in (False, True)]
             is_there, turns = given in self.first.base, list[int]()
             while sides[0] or sides[1]:
-                is_there = not is_there if sides[not is_there] else is_there
+                if sides[not is_there]:
+                    is_there = not is_there
+                else:
+                    self.odd.add(given)
                 turns.append(sides[is_there].popleft())
             of[given] = turns
         return of
@@ -254,16 +261,18 @@ class Spine:
             raise Unreached(sketch.given.name, "begins with %d changes that no other log has; give logs of which each begins before the one "
                             "before has ended" % (count - len(tuples)))
         turns = self._turns()
-        found = self._had(sketch, turns, tuples, count)
+        unformed = self.first.unformed.union(one[:3] for one in self.odd)
+        found = self._had(sketch, turns, tuples, count, unformed | sketch.unformed)
         by_turns = [self.changes[one] for listed in turns.values() for one in listed if one in found]
-        refuse_other_base(sketch, state_of(self.first.base, by_turns), self.first.unformed)
+        refuse_other_base(sketch, state_of(self.first.base, by_turns), unformed)
         found |= self._rules_in_base(sketch, [one for one in others if self.changes[one].is_rules])
         return [one for one in others if one in found]
 
-    def _had(self, sketch: Sketch, turns: dict[Relationship, list[int]], others: list[int], count: int) -> set[int]:
+    def _had(self, sketch: Sketch, turns: dict[Relationship, list[int]], others: list[int], count: int,
+             unformed: set[tuple[str, ...]]) -> set[int]:
         """Of the changes that a log does not have, so many that it began with: the first ones, but that of changes that came at once a later one
         may be in its base state, and an earlier one not. What has no form, no state tells of."""
-        had, rest, unformed = set(others[:count]), set(others[count:]), self.first.unformed | sketch.unformed
+        had, rest = set(others[:count]), set(others[count:])
         least: list[int] = []
         most: list[int] = []
         either: list[tuple[int, int]] = []
