@@ -537,16 +537,13 @@ class OpenFga:
         for given, taint in self.tainted.items():
             if any(self.bearing.bears(given, goal) for goal in goals):
                 return taint.why
-        if self.places.is_unsure(window, lambda row: True) and any(self._is_unsure(window, goal) for goal in goals):
+        if self.places.is_unsure(window, lambda row: True) and any(self.places.is_unsure(window, partial(self._bears, goal)) for goal in goals):
             return UNORDERED
         low = min(self.places.surely(window, one.since, partial(self._bears, goal)) for goal in goals)
         least = self._known_last(one, window) if one.message.save is not None else low
         if any(self.places.has_unknown(Window(low, least), one.since, partial(self._bears, goal)) for goal in goals):
             return UNORDERED
         return self._of_model(one, Window(max(low, least), window.high))
-
-    def _is_unsure(self, window: Window, goal: Relationship) -> bool:
-        return self.places.is_unsure(window, partial(self._bears, goal))
 
     def _bears(self, goal: Relationship, row: Row) -> bool:
         return not row.changes or any(self.bearing.bears(change.given, goal) for change in row.changes)

@@ -125,7 +125,8 @@ class Spine:
         for one in self.groups[place - 1]:
             change = self.changes[one]
             yield from change.before
-            yield from ({"event": "unmapped", "reason": ODD, "detail": str(given), "userset": [*given[:3]]} for given in change.tuples if given in self.odd)
+            for given in self.odd.intersection(change.tuples):
+                yield {"event": "unmapped", "reason": ODD, "detail": str(given), "userset": [*given[:3]]}
             yield {**change.value, "revision": self.number(place)}
             yield from change.behind
 
