@@ -537,6 +537,8 @@ class OpenFga:
         for given, taint in self.tainted.items():
             if any(self.bearing.bears(given, goal) for goal in goals):
                 return taint.why
+        if window.low == window.high:
+            return self._of_model(one, window)
         if self.places.is_unsure(window, lambda row: True) and any(self.places.is_unsure(window, partial(self._bears, goal)) for goal in goals):
             return UNORDERED
         low = min(self.places.surely(window, one.since, partial(self._bears, goal)) for goal in goals)
