@@ -1,11 +1,16 @@
 """tools/record where a service, a client or a network does what is seldom seen: with processes, each against the truth of the stand-in."""
+import asyncio
+import gzip
+import http.client
 import os
 import socket
+import threading
 import time
 from unittest import mock
 
 from new_enemy_tools.recording.keeper import Settings
 from new_enemy_tools.recording.openfga_feed import OpenFgaFeed
+from tests import recording_latency
 from tests.recorded import READY, Client
 from tests.stand_in_openfga import STORE
 from tests.test_recording_gaps import keeper_of
@@ -215,6 +220,30 @@ class Bounds(OpenFga):
     def memory(self, process):
         with open("/proc/%d/status" % process, encoding="ascii") as file:
             return int(next(line.split()[1] for line in file if line.startswith("VmHWM"))) >> 10
+
+    def test_packed_answers_that_hold_much(self):
+        """They pass as they are, and the keeper unpacks no more than it may."""
+        packed = gzip.compress(bytes(300 << 20), 1)
+
+        class Packed(recording_latency.Service):
+            def data_received(self, data):
+                if b"/check" not in data:
+                    super().data_received(data)
+                else:
+                    self.transport.write(b"HTTP/1.1 200 OK\r\nContent-Encoding: gzip\r\nContent-Length: %d\r\n\r\n%s" % (len(packed), packed))
+        loop = asyncio.new_event_loop()
+        self.service_port = loop.run_until_complete(loop.create_server(Packed, "127.0.0.1", 0)).sockets[0].getsockname()[1]
+        threading.Thread(target=loop.run_forever, daemon=True).start()
+        self.addCleanup(loop.call_soon_threadsafe, loop.stop)
+        recorder = self.start_recorder()
+        for _ in range(5):
+            client = http.client.HTTPConnection("127.0.0.1", self.port, timeout=READY)
+            client.request("POST", "/stores/%s/check" % recording_latency.STORE, b"{}")
+            self.assertEqual(client.getresponse().read(), packed)
+            client.close()
+        self.assertLess(self.memory(keeper_of(recorder)), 250)
+        self.end(recorder)
+        self.assertEqual(sum(row["lost"] for row in self.of_kind("gap") if row["reason"] == "an answer was too long to be kept"), 5)
 
     def test_long_requests_while_the_folder_is_held(self):
         """What waits is bounded by bytes."""
