@@ -136,6 +136,15 @@ class Parts(Case):
             self.assertEqual([tuple(side for side in ("add", "remove") if side in row) for row in made[:2]], [("remove",), ("add",)])
             self.assertEqual(events(made), [("write", 1), ("write", 2), ("check", 2), ("check", 2)])
 
+    def test_a_log_that_ends_before_a_change_that_it_read_too_late(self):
+        """It has that the tuple went, and not yet that it had come before; another log has both, in the order in which they came."""
+        first = lines(change(1, "a", "remove", at=2), {**check(1, 5), "reply": False})
+        other = lines(change(1, "a", at=1), change(2, "a", "remove", at=2), {**check(2, 6), "reply": False})
+        for logs in ((first, other), (other, first)):
+            made = joined(*logs)[2:]
+            self.assertEqual([side for row in made for side in ("add", "remove") if side in row], ["add", "remove"])
+            self.assertEqual(sorted(row["event"] for row in made[2:]), ["check", "unmapped"])
+
     def test_a_change_that_no_recorder_read(self):
         """A tuple that comes twice went between. What rests on it is in doubt, and no log is refused that begins with it or without it."""
         first, later = lines(change(1, "a", at=1), change(2, "a", at=3)), lines(check(0, 9), changes=2)

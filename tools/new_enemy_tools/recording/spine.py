@@ -135,7 +135,6 @@ class Spine:
         before = len(self.changes)
         ranks = self._added(sketch)
         others = [one for one in range(before) if one not in ranks]
-        self._refuse_missed(sketch, before, ranks)
         ranks.update(dict.fromkeys(self._in_base(sketch, others), 0))
         self.ranks.append(ranks)
 
@@ -241,17 +240,6 @@ class Spine:
             if len(group) > 1 and self.fixed.isdisjoint(group):
                 self.together.append(group)
         return ranks
-
-    def _refuse_missed(self, sketch: Sketch, before: int, ranks: dict[int, int]) -> None:
-        """Raises JoinFault where the other logs have a later change of a tuple, and not one before it."""
-        missed: set[Relationship] = set()
-        for one in ranks:
-            tuples = self.changes[one].tuples
-            if one >= before:
-                missed.update(tuples)
-            elif not missed.isdisjoint(tuples):
-                raise JoinFault("%s has a change of %s that the other logs do not have, and they have a later one" % (
-                    sketch.given.name, next(given for given in tuples if given in missed)))
 
     def _in_base(self, sketch: Sketch, others: list[int]) -> list[int]:
         """Of the changes that a log does not have, those that are in its base state; the others came when it had ended."""
