@@ -123,6 +123,51 @@ class Parts(Case):
         far = lines(change(1, "b", at=2), {**check(1, 6), "goal": ["document", "e", "viewer", "user", "a"]}, change(2, "a", at=1))
         self.assertEqual(events(joined(first, far))[2:], [("write", 1), ("write", 2), ("check", 2)])
 
+    def test_a_change_that_a_recorder_read_too_late(self):
+        """A tuple that was there went and came. One recorder read first that it came; what another saw, and a later one begins with, is that it is there."""
+        def with_base(rows):
+            rows[3]["add"] = [["document", "d", "viewer", "user", "a"]]
+            return rows
+        late = with_base(lines(change(1, "a", at=2), change(2, "a", "remove", at=1)))
+        right = with_base(lines(change(1, "a", "remove", at=1), change(2, "a", at=2), check(2, 5)))
+        later = with_base(lines(check(0, 9), changes=2))
+        for logs in ((late, right, later), (right, late, later)):
+            made = joined(*logs)[2:]
+            self.assertEqual([tuple(side for side in ("add", "remove") if side in row) for row in made[:2]], [("remove",), ("add",)])
+            self.assertEqual(events(made), [("write", 1), ("write", 2), ("check", 2), ("check", 2)])
+
+    def test_a_log_that_ends_before_a_change_that_it_read_too_late(self):
+        """It has that the tuple went, and not yet that it had come before; another log has both, in the order in which they came."""
+        first = lines(change(1, "a", "remove", at=2), {**check(1, 5), "reply": False})
+        other = lines(change(1, "a", at=1), change(2, "a", "remove", at=2), {**check(2, 6), "reply": False})
+        for logs in ((first, other), (other, first)):
+            made = joined(*logs)[2:]
+            self.assertEqual([side for row in made for side in ("add", "remove") if side in row], ["add", "remove"])
+            self.assertEqual(sorted(row["event"] for row in made[2:]), ["check", "unmapped"])
+
+    def test_a_change_that_no_recorder_read(self):
+        """A tuple that comes twice went between. What rests on it is in doubt, and no log is refused that begins with it or without it."""
+        first, later = lines(change(1, "a", at=1), change(2, "a", at=3)), lines(check(0, 9), changes=2)
+        made = joined(first, later)
+        self.assertEqual({tuple(row["userset"]) for row in made if row["event"] == "unmapped"}, {("document", "d", "viewer")})
+        self.assertEqual(events(made)[-1], ("check", 2))
+
+    def test_a_log_that_begins_with_the_later_of_two_changes(self):
+        """Which a recorder read at once, and has the other way round. What the later log saw is no state of the first, where both bear on the question."""
+        first = lines(change(1, "a"), change(2, "b"))
+
+        def later(goal):
+            rows = lines({**check(0, 9), "goal": goal}, changes=1)
+            rows[3]["add"] = [["document", "d", "viewer", "user", "b"]]
+            return rows
+        near, far = (["document", one, "viewer", "user", "b"] for one in "de")
+        self.assertEqual(events(joined(first, later(near)))[2:], [("write", 1), ("write", 2), ("unmapped", None)])
+        self.assertEqual(events(joined(first, later(far)))[2:], [("write", 1), ("write", 2), ("check", 2)])
+        # One that begins with what nobody wrote is of another store.
+        other = later(near)
+        other[3]["add"] = [["document", "d", "viewer", "user", "c"]]
+        self.assertIn("does not begin with what the other logs have there", self.refused(first, other))
+
     def test_content_between_changes_whose_order_differs(self):
         """It stands behind all that its recorder knew; where that is more than it saw, it is left out, with its version."""
         content = check(1, 6, "content", version="v", token=1)

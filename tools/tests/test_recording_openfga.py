@@ -377,6 +377,13 @@ class Cost(Case):
         run = subprocess.run([sys.executable, os.path.join(TOOLS, "tests", "recording_latency.py"), "1", "0", "2"], capture_output=True, text=True, timeout=300)
         self.assertRegex(run.stdout, r"asked ([0-9]+), recorded \1, of 1\d\d bytes each\n")
 
+    def test_what_is_measured_of_a_large_store(self):
+        """It had 0.8 KB a tuple, and a minute for a hundred thousand. Python and its modules are some 30 MB."""
+        run = subprocess.run([sys.executable, os.path.join(TOOLS, "tests", "recording_base.py"), "40000"], capture_output=True, text=True, timeout=300)
+        found = json.loads(run.stdout)
+        self.assertEqual(found["tuples"], 40000)
+        self.assertLess(found["bytes"], (40 << 20) + 400 * found["tuples"])
+
     def test_what_is_measured(self):
         run = subprocess.run([sys.executable, os.path.join(TOOLS, "tests", "recording_latency.py"), "1", "30"], capture_output=True, text=True, timeout=300)
         times = r"30 checks, p50 [0-9.]+ ms, p99 [0-9.]+ ms\n"

@@ -6,6 +6,7 @@ import os
 import socket
 import threading
 import time
+from itertools import chain
 from random import Random
 from unittest import mock
 from urllib.parse import urlsplit
@@ -52,7 +53,17 @@ class Gone(Case):
         teller.tell(Beat(7))
         mine.send(b"unread")
         its.close()
-        self.assertEqual(list(messages_from(mine)), [Beat(7)])
+        self.assertEqual(list(messages_from(mine)), [[Beat(7)]])
+
+    def test_messages_come_in_order_however_they_are_cut(self):
+        """The last one broke off, and is none."""
+        told = [Ended(number, "check", "/p", 3, 4, 5, None, "v", None, 200, b"x" * size, b"{}", None) for number, size in enumerate((0, 7, 200_000, 1))]
+        data, at, random, pieces = b"".join(map(packed, told))[:-1], 0, Random(3), []
+        while at < len(data):
+            pieces.append(data[at:at + random.choice((1, 3, 5000, 65536))])
+            at += len(pieces[-1])
+        end = mock.Mock(recv=mock.Mock(side_effect=[*pieces, b""]))
+        self.assertEqual(list(chain.from_iterable(messages_from(end))), told[:-1])
 
 
 class Reading(Case):
@@ -275,7 +286,7 @@ class Telling(Case):
 
     def read(self):
         """Reads all that is told, in a thread, while the teller writes what waits."""
-        reader = threading.Thread(target=lambda: self.got.extend(messages_from(self.its)))
+        reader = threading.Thread(target=lambda: self.got.extend(chain.from_iterable(messages_from(self.its))))
         reader.start()
         while not self.teller.flush():
             time.sleep(0.001)

@@ -55,6 +55,12 @@ class Overlapping(Case):
         self.assertEqual(self.overlap.cursor, "b")
         self.assertEqual(self.take([c], "c", 16), ([], "c", 0, []))
 
+    def test_a_change_before_a_later_one_of_its_tuple(self):
+        there = change("a", True, 2)
+        self.take([there], "a", 1)
+        read = self.overlap.take(again(change("a", False), change("b"), there), "a", 3, 4)
+        self.assertEqual([one.is_late for one in read.changes], [True, False])
+
     def test_what_is_the_same_twice(self):
         a = change("a")
         self.assertEqual(self.take([a], "a", 1)[0], ["a"])
@@ -258,6 +264,22 @@ class Writes(Case):
         self.read(10, 11, change("a", False, 3))
         self.check(12, 13)
         self.read(14, 15)
+        self.assertEqual((self.core.held, self.lost()), ({}, {"changes of a tuple that do not come by turns": 1}))
+
+    def test_a_base_state_that_was_read_while_a_tuple_went_and_came(self):
+        """The pages showed that it came, and not that it had gone before. It is there, and the changes leave that it is not; until it comes again."""
+        self.feed = [change("a", True, 2)]
+        self.overlap.begin(again(*self.feed), None, "c", 1)
+        self.feed.insert(0, change("a", False, 1))
+        self.read(2, 3)
+        self.check(4, 5)
+        self.check(4, 5, "e")
+        self.read(6, 7)
+        self.read(8, 9, change("a", False, 8))
+        self.read(10, 11)
+        self.read(12, 13, change("a", True, 12))
+        self.check(14, 15)
+        self.read(16, 17)
         self.assertEqual((self.core.held, self.lost()), ({}, {"changes of a tuple that do not come by turns": 1}))
 
     def test_too_many_in_doubt_put_all_in_doubt(self):

@@ -1,11 +1,16 @@
 """tools/record where a service, a client or a network does what is seldom seen: with processes, each against the truth of the stand-in."""
+import asyncio
+import gzip
+import http.client
 import os
 import socket
+import threading
 import time
 from unittest import mock
 
 from new_enemy_tools.recording.keeper import Settings
 from new_enemy_tools.recording.openfga_feed import OpenFgaFeed
+from tests import recording_latency
 from tests.recorded import READY, Client
 from tests.stand_in_openfga import STORE
 from tests.test_recording_gaps import keeper_of
@@ -134,6 +139,21 @@ class Raced(OpenFga):
         self.end(recorder)
         self.assertEqual(len(self.of_kind("check")), 3)
 
+    def test_labels_by_their_bytes(self):
+        """`\u00e0` and `\u00c5` end alike in UTF-8, as Latin-1 has it; what an application says in two ways is a gap."""
+        recorder = self.begin(0, 0)
+        self.write(self.client, key(USERS[0], "owner", EARLY[0]))
+        for headers in (b"Save: \xc3\xa0", b"Version: \xc3\xa0", b"Version: \xc3\x85", b"Version: a\r\nX-Content-Version: b", b"Save: c\r\nX-Content-Version: d"):
+            one = self.connected()
+            one.sendall(b"".join(self.request(headers=b"X-Content-%s\r\n" % headers)))
+            self.assertIn(b'"allowed": true', self.answer(one))
+            one.close()
+        self.end(recorder)
+        self.assertEqual([(kind, row["version"]) for kind in ("content", "check") for row in self.of_kind(kind)],
+                         [("content", "\u00e0"), ("check", "\u00e0"), ("check", "\u00c5")])
+        self.assertEqual(sorted((row["reason"], row["lost"]) for row in self.of_kind("gap") if row["reason"].startswith("X-")),
+                         [("X-Content-Save and X-Content-Version on one call", 1), ("X-Content-Version stands twice", 1)])
+
     def test_a_stray_end_of_a_line(self):
         """Whatever the service makes of it, no answer is taken for that of another request."""
         recorder = self.begin(0, 0)
@@ -200,6 +220,30 @@ class Bounds(OpenFga):
     def memory(self, process):
         with open("/proc/%d/status" % process, encoding="ascii") as file:
             return int(next(line.split()[1] for line in file if line.startswith("VmHWM"))) >> 10
+
+    def test_packed_answers_that_hold_much(self):
+        """They pass as they are, and the keeper unpacks no more than it may."""
+        packed = gzip.compress(bytes(300 << 20), 1)
+
+        class Packed(recording_latency.Service):
+            def data_received(self, data):
+                if b"/check" not in data:
+                    super().data_received(data)
+                else:
+                    self.transport.write(b"HTTP/1.1 200 OK\r\nContent-Encoding: gzip\r\nContent-Length: %d\r\n\r\n%s" % (len(packed), packed))
+        loop = asyncio.new_event_loop()
+        self.service_port = loop.run_until_complete(loop.create_server(Packed, "127.0.0.1", 0)).sockets[0].getsockname()[1]
+        threading.Thread(target=loop.run_forever, daemon=True).start()
+        self.addCleanup(loop.call_soon_threadsafe, loop.stop)
+        recorder = self.start_recorder()
+        for _ in range(5):
+            client = http.client.HTTPConnection("127.0.0.1", self.port, timeout=READY)
+            client.request("POST", "/stores/%s/check" % recording_latency.STORE, b"{}")
+            self.assertEqual(client.getresponse().read(), packed)
+            client.close()
+        self.assertLess(self.memory(keeper_of(recorder)), 250)
+        self.end(recorder)
+        self.assertEqual(sum(row["lost"] for row in self.of_kind("gap") if row["reason"] == "an answer was too long to be kept"), 5)
 
     def test_long_requests_while_the_folder_is_held(self):
         """What waits is bounded by bytes."""

@@ -5,6 +5,7 @@ import json
 import os
 import socket
 import threading
+from itertools import chain
 from random import Random
 from unittest import mock
 from urllib.parse import urlsplit
@@ -33,7 +34,7 @@ class Unchanged(Case):
         mine, its = socket.socketpair()
         mine.setblocking(False)
         told = []
-        reader = threading.Thread(target=lambda: told.extend(messages_from(its)))
+        reader = threading.Thread(target=lambda: told.extend(chain.from_iterable(messages_from(its))))
         reader.start()
         got = asyncio.run(self.relayed(Teller(mine), request, answer, is_half_closed, Random(seed)))
         mine.close()

@@ -70,7 +70,7 @@ class Missed(Case):
         """It shows that a tuple came which was there, since the page of its going was read too early. When that is shown, it is still not known
         which of the two was last."""
         self.assertEqual(run(1137002)[1].faults(), [])
-        with mock.patch.object(OpenFga, "_clear", lambda self, given, row: self.tainted.pop(given, None)):
+        with mock.patch.object(OpenFga, "_taint", lambda self, given, taint: None):
             self.assertEqual(run(1137002)[1].faults(), ["a right reply is called wrong (check 22)"])
 
     def test_in_a_log_of_the_changes_alone(self):

@@ -62,7 +62,7 @@ def _answer(request: object, check: object, answer: object) -> Answer:
         allowed = False
     if not isinstance(allowed, bool):
         raise Bad("the response has no `allowed`")
-    return _mapped(relationship_of(get(check, "tuple_key")), allowed, request, check)
+    return _mapped(relationship_of(get(check, "tuple_key")), allowed, *((request,) if check is request else (request, check)))
 
 
 def _mapped(goal: Relationship, reply: bool, *asked: object) -> Answer:

@@ -16,8 +16,9 @@ STRAY = re.compile(rb"(?<!\r)\n|\r(?!\n|\Z)|\x00")
 # The first line of a request that is read along.
 REQUEST = re.compile(rb"[!#$%&'+*.^_`|~0-9A-Za-z-]+ [!-~]+ HTTP/1\.[01]")
 CONTROL = re.compile(rb"[\x00-\x08\x0a-\x1f\x7f]")
-# The headers of a head, where each of them is as it should be.
-FIELDS = re.compile(rb"(?:\r\n[!#$%&'+*.^_`|~0-9A-Za-z-]+:[^\x00-\x08\x0a-\x1f\x7f]*)*")
+# A head in which all is as it should be; and the headers that are read of it.
+PLAIN = re.compile(rb"[!#$%&'+*.^_`|~0-9A-Za-z-][^\x00-\x08\x0a-\x1f\x7f]*(?:\r\n[!#$%&'+*.^_`|~0-9A-Za-z-]+:[^\x00-\x08\x0a-\x1f\x7f]*)*\r\n\r\n")
+READ = re.compile(rb"\r\n(content-length|content-encoding|transfer-encoding|expect|x-content-(?:save|version|token)):([^\r]*)", re.IGNORECASE)
 SIZE = re.compile(rb"([0-9A-Fa-f]{1,15})[ \t]*(?:;.*)?", re.DOTALL)
 Raw = Callable[[bytes], None]
 
@@ -26,8 +27,8 @@ class Strange(Exception):
     """Something that is no HTTP/1.1, or none that is read along."""
 
 
-def _field(line: bytes) -> tuple[bytes, bytes]:
-    """The name and the value of a header, or of a trailer; raises Strange."""
+def _refuse_field(line: bytes) -> None:
+    """Raises Strange of a header, or of a trailer, that is none."""
     name, colon, value = line.partition(b":")
     if not colon:
         raise Strange("a header without a colon")
@@ -35,27 +36,29 @@ def _field(line: bytes) -> tuple[bytes, bytes]:
         raise Strange("a header whose name has blanks or other signs")
     if CONTROL.search(value):
         raise Strange("a header with a sign that is no text")
-    return name, value
 
 
 class Head:
-    """The first line of a message and its headers, by their names in small letters; of one that stands twice the last, and its name."""
+    """The first line of a message and the headers that are read, by their names in small letters; of one that stands twice the last, and its name."""
 
-    def __init__(self, raw: bytes):
-        first, *rest = raw.split(b"\r\n")
-        self.is_request = REQUEST.fullmatch(first) is not None
-        self.words = first.decode("latin-1").split(" ", 2)
+    def __init__(self, raw: bytes, is_plain: bool = False):
+        self.first, *rest = raw.split(b"\r\n", 1 if is_plain else -1)
+        self.words = self.first.decode("latin-1").split(" ", 2)
         if len(self.words) < 2:
             raise Strange("a first line of fewer than two words")
+        for one in () if is_plain else rest:
+            _refuse_field(one)
         self.values: dict[str, bytes] = {}
-        self.twice: set[str] = set()
-        is_good = FIELDS.fullmatch(raw, len(first)) is not None
-        for one in rest:
-            name, value = one.split(b":", 1) if is_good else _field(one)
-            key = name.decode("ascii").lower()
+        self.twice: list[str] = []
+        for name, value in READ.findall(raw):
+            key = name.decode().lower()
             if key in self.values:
-                self.twice.add(key)
+                self.twice.append(key)
             self.values[key] = value.strip(b" \t")
+
+    @property
+    def is_request(self) -> bool:
+        return REQUEST.fullmatch(self.first) is not None
 
     def text(self, name: str) -> Optional[str]:
         value = self.values.get(name)
@@ -64,7 +67,7 @@ class Head:
     def length(self) -> Optional[int]:
         """How long the body is by its header; None where no header says so, -1 where it comes in chunks."""
         given, coding = self.values.get("content-length"), self.values.get("transfer-encoding")
-        if not self.twice.isdisjoint(("content-length", "transfer-encoding")) or given is not None and coding is not None:
+        if "content-length" in self.twice or "transfer-encoding" in self.twice or given is not None and coding is not None:
             raise Strange("a message that says twice how long it is")
         if coding is not None:
             if coding.lower() != b"chunked":
@@ -91,7 +94,7 @@ class Messages:
 
     def __init__(self, begun: Callable[[Head], Optional[int]], ended: Callable[[Optional[bytes]], None], raw: Raw = lambda data: None):
         self.begun, self.ended, self.raw = begun, ended, raw
-        self.data = bytearray()
+        self.data = b""
         self.left: Optional[int] = None
         self.body = bytearray()
         self.is_kept = True
@@ -111,16 +114,12 @@ class Messages:
             self._finish()
 
     def _cut(self, count: int) -> bytes:
-        found = bytes(self.data[:count])
-        del self.data[:count]
-        self.seen = 0
+        found, self.data, self.seen = self.data[:count], self.data[count:], 0
         return found
 
     def _find(self, end: bytes) -> int:
         """Where a line or a head ends; -1 where the end has not come. What has been looked at is not looked at again."""
         at = self.data.find(end, max(0, self.seen - len(end)))
-        if at >= 0 and self._is_plain(at):
-            return at
         stray = STRAY.search(self.data, max(0, self.seen - 1), at if at >= 0 else len(self.data))
         if stray:
             raise Strange("a line with a stray end in it")
@@ -130,33 +129,33 @@ class Messages:
                 raise Strange("a line of more than %d bytes" % HEAD)
         return at
 
-    def _is_plain(self, end: int) -> bool:
-        """Whether all ends of lines up to a place are ends in one way."""
-        count = self.data.count
-        return count(b"\n", 0, end) == count(b"\r", 0, end) == count(b"\r\n", 0, end) and not count(b"\x00", 0, end)
-
     def _head(self) -> bool:
+        # Most come whole.
+        plain = None if self.seen else PLAIN.match(self.data)
+        at = plain.end() - 4 if plain else self._end_of_head()
+        if at < 0:
+            return False
+        self.is_kept = True
+        # Where it is strange, nothing of it is taken.
+        length, behind = self.begun(Head(self.data[:at], plain is not None)), at + 4
+        if length is not None and 0 <= length <= BODY and len(self.data) >= behind + length:
+            whole = self._cut(behind + length)
+            self.raw(whole)
+            self.ended(whole[behind:])
+            return True
+        self.raw(self._cut(behind))
+        self.left = length
+        self._step = self._to_end if length is None else self._chunk if length < 0 else self._counted
+        return True
+
+    def _end_of_head(self) -> int:
         while self.data[:2] == b"\r\n":
             self.raw(self._cut(2))
         if self.data and not NAME.match(self.data):
             if self.data == b"\r":
-                return False
+                return -1
             raise Strange("a first line that begins with no word")
-        at = self._find(b"\r\n\r\n")
-        if at < 0:
-            return False
-        self.body, self.is_kept = bytearray(), True
-        # Where it is strange, nothing of it is taken.
-        length = self.begun(Head(bytes(self.data[:at])))
-        self.raw(self._cut(at + 4))
-        if length is None:
-            self._step = self._to_end
-        elif length < 0:
-            self._step = self._chunk
-        else:
-            self.left, self._step = length, self._counted
-            return length > 0 or self._finish()
-        return True
+        return self._find(b"\r\n\r\n")
 
     def _take(self, count: int) -> int:
         """Moves at most so many bytes to the body."""
@@ -212,7 +211,7 @@ class Messages:
         if line is None:
             return False
         if line:
-            _field(line)
+            _refuse_field(line)
         return bool(line) or self._finish()
 
     def _finish(self) -> bool:

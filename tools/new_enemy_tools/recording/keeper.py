@@ -20,6 +20,7 @@ from new_enemy_tools.shown import tell
 # Of so many messages, or of so many bytes in them, more are not taken in; the proxy and the service wait, or count what is lost.
 MESSAGES = 20_000
 ROOM = 64 << 20
+EACH = ROOM // MESSAGES
 TICK = 0.2
 # So long the end waits for changes that entries need.
 LAST = 5.0
@@ -56,17 +57,18 @@ class Feed(Protocol):
         """Takes another key for what is asked from now on."""
 
 
-def _weight(message: Any) -> int:
-    """How many bytes of requests and answers a message keeps."""
-    return len(message.request or b"") + len(message.response or b"") if isinstance(message, Ended) else 0
+def _weight(messages: list[Any]) -> int:
+    """How much room messages take, with the requests and answers that they keep."""
+    return sum(EACH + len(one.request or b"") + len(one.response or b"") if isinstance(one, Ended) else EACH for one in messages)
 
 
 class Keeper:
     def __init__(self, settings: Settings, service: Service, feed: Feed, end: socket.socket):
         self.settings, self.feed, self.end = settings, feed, end
         self.core = Core(service, settings.hold)
-        self.queue: queue.SimpleQueue[Any] = queue.SimpleQueue()
-        # how many bytes have come into the queue and have been taken; each is changed by one thread
+        # messages that came at once, and how much room those of the proxy take
+        self.queue: queue.SimpleQueue[tuple[list[Any], int]] = queue.SimpleQueue()
+        # how much of that has come and has been taken; each is changed by one thread
         self.came = self.taken = 0
         self.log = LogFiles(settings.folder, settings.service, settings.size, settings.age, settings.hold, settings.packs)
         self.sender = StatusSender(end)
@@ -100,10 +102,10 @@ class Keeper:
         ticked = time.monotonic()
         while not self.core.is_over:
             try:
-                self._take(self.queue.get(timeout=TICK))
+                self._take(*self.queue.get(timeout=TICK))
                 # What has come meanwhile goes into the log with it, by one write.
-                for _ in range(min(self.queue.qsize(), 500)):
-                    self._take(self.queue.get())
+                for _ in range(min(self.queue.qsize(), 50)):
+                    self._take(*self.queue.get())
             except queue.Empty:
                 pass
             # What can be written is no longer waiting, however late it came here.
@@ -119,18 +121,20 @@ class Keeper:
         return Status(core.recorded, dict(core.lost), len(core.held), lag, not core.is_ready or core.is_faulty)
 
     def _read_proxy(self) -> None:
-        for message in messages_from(self.end):
-            if isinstance(message, Key):
-                self.feed.use_key(message.text)
-                continue
-            if isinstance(message, Bye):
-                self.gone_at = time.monotonic()
+        for messages in messages_from(self.end):
+            for message in messages:
+                if isinstance(message, Key):
+                    self.feed.use_key(message.text)
+                elif isinstance(message, Bye):
+                    self.gone_at = time.monotonic()
+            messages = [one for one in messages if not isinstance(one, Key)]
             while self.came - self.taken > ROOM:
                 time.sleep(0.01)
-            self.came += _weight(message)
-            self._put(message)
+            weight = _weight(messages)
+            self.came += weight
+            self.queue.put((messages, weight))
         self.gone_at = self.gone_at or time.monotonic()
-        self.queue.put(Bye(0))
+        self.queue.put(([Bye(0)], 0))
 
     def _is_last(self) -> bool:
         """Whether the proxy is gone, and the keeper has waited for long enough."""
@@ -139,7 +143,7 @@ class Keeper:
     def _put(self, message: Any) -> None:
         while self.queue.qsize() > MESSAGES:
             time.sleep(0.01)
-        self.queue.put(message)
+        self.queue.put(([message], 0))
 
     def _read_feed(self, left: Optional[Left]) -> None:
         while True:
@@ -168,17 +172,19 @@ class Keeper:
                 raise LogFault("it was never begun")
             time.sleep(0.5)
 
-    def _take(self, message: Any) -> None:
-        self.taken += _weight(message)
-        if not isinstance(message, (*KINDS, Faulty)):
-            self.said = None
-        self.core.take(message, _now())
-        if self.core.first is not None:
-            # It may be long, and stands in one file.
-            for data in self.core.first:
-                self._write_whole(data, True)
-            self.core.first = None
-            self.log.place = self.core.place
+    def _take(self, messages: list[Any], weight: int) -> None:
+        self.taken += weight
+        now = _now()
+        for message in messages:
+            if not isinstance(message, (*KINDS, Faulty)):
+                self.said = None
+            self.core.take(message, now)
+            if self.core.first is not None:
+                # It may be long, and stands in one file.
+                for data in self.core.first:
+                    self._write_whole(data, True)
+                self.core.first = None
+                self.log.place = self.core.place
         self._tell()
 
     def _tell(self) -> None:
@@ -220,7 +226,7 @@ class Keeper:
         self.gone_at = time.monotonic()
         while self.core.is_waiting() and not self._is_last():
             try:
-                self._take(self.queue.get(timeout=TICK))
+                self._take(*self.queue.get(timeout=TICK))
             except queue.Empty:
                 pass
             self._write()

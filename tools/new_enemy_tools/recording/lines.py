@@ -11,11 +11,12 @@ from new_enemy_tools.importing.times import text_of_time
 ENCODE = json.JSONEncoder(ensure_ascii=False, separators=(",", ":")).encode
 # So many tuples of the base state stand on a line.
 TUPLES = 1000
+ODD = "changes of a tuple that do not come by turns"
 
 
 def time_text(at: int) -> str:
     """Nanoseconds since 1970 as RFC 3339, to microseconds."""
-    return datetime.fromtimestamp(at // 1000 / 1e6, timezone.utc).strftime("%Y-%m-%dT%H:%M:%S.%fZ")
+    return datetime.fromtimestamp(at // 1000 / 1e6, timezone.utc).isoformat(timespec="microseconds")[:-6] + "Z"
 
 
 def line(event: str, **values: Any) -> bytes:

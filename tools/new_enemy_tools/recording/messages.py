@@ -4,17 +4,16 @@ import socket
 import struct
 import time
 from collections import Counter, deque
-from io import BufferedReader
 from itertools import islice
-from typing import Any, BinaryIO, Iterator, NamedTuple, Optional
+from typing import Any, Iterator, NamedTuple, Optional
 
 SIZE = struct.Struct("<I")
 # Calls that decide.
 CHECKS = frozenset(("check", "batch", "list", "stream"))
 # Calls that are told when they are passed on.
 TOLD = CHECKS | {"write"}
-# So many messages are written at once.
-AT_ONCE = 64
+# So many messages are written at once, and so many bytes read.
+AT_ONCE, READ = 64, 1 << 16
 # So many bytes may wait for the keeper.
 ROOM = 64 << 20
 
@@ -77,10 +76,11 @@ class Key(NamedTuple):
 
 
 KINDS = (Started, Ended, Lost, Beat, Bye, Key)
+NUMBERS = {kind: number for number, kind in enumerate(KINDS)}
 
 
 def packed(message: tuple[Any, ...]) -> bytes:
-    data = marshal.dumps((KINDS.index(type(message)), *message))
+    data = marshal.dumps((NUMBERS[type(message)], *message))
     return SIZE.pack(len(data)) + data
 
 
@@ -98,12 +98,7 @@ class Teller:
     def tell(self, message: tuple[Any, ...]) -> None:
         if isinstance(message, Ended):
             self.answered[message.call] += 1
-        if self._has_room():
-            if self.lost is not None:
-                self._add(packed(self.lost))
-                self.lost = None
-            self._add(packed(message))
-        else:
+        if not self._put(message):
             self.lose("the keeper of the log does not keep up" if self.end is not None else "the keeper of the log was gone")
         if not self.gathers:
             self.flush()
@@ -114,11 +109,7 @@ class Teller:
 
     def catch_up(self) -> None:
         """Tells what was lost and what waits, where there is room again, and that nothing else happened."""
-        if self._has_room():
-            if self.lost is not None:
-                self._add(packed(self.lost))
-                self.lost = None
-            self._add(packed(Beat(time.monotonic_ns())))
+        self._put(Beat(time.monotonic_ns()))
         self.flush()
 
     def lose(self, reason: str) -> None:
@@ -127,12 +118,15 @@ class Teller:
         before = self.lost
         self.lost = Lost(now if before is None else before.start, now, 1 if before is None else before.amount + 1, reason)
 
-    def _has_room(self) -> bool:
-        return self.end is not None and self.size < ROOM
-
-    def _add(self, data: bytes) -> None:
-        self.waiting.append(data)
-        self.size += len(data)
+    def _put(self, message: tuple[Any, ...]) -> bool:
+        """Keeps what is to be told, behind what was lost; False where there is no room."""
+        if self.end is None or self.size >= ROOM:
+            return False
+        for one in (message,) if self.lost is None else (self.lost, message):
+            self.waiting.append(packed(one))
+            self.size += len(self.waiting[-1])
+        self.lost = None
+        return True
 
     def flush(self) -> bool:
         """Writes what the socket takes; whether nothing waits."""
@@ -163,20 +157,23 @@ class Teller:
             self.lose("the keeper of the log was gone")
 
 
-def messages_from(end: socket.socket) -> Iterator[tuple[Any, ...]]:
-    """What the other side tells, until it is gone."""
-    file = BufferedReader(end.makefile("rb", 0), 1 << 16)
-    while len(head := _read(file, SIZE.size)) == SIZE.size:
-        data = _read(file, SIZE.unpack(head)[0])
-        if len(data) < SIZE.unpack(head)[0]:
+def messages_from(end: socket.socket) -> Iterator[list[tuple[Any, ...]]]:
+    """What the other side tells, together what came at once, until it is gone."""
+    data = bytearray()
+    while True:
+        try:
+            came = end.recv(READ)
+        except OSError:
+            # The other side is gone in the midst of what was told it.
             return
-        kind, *values = marshal.loads(data)
-        yield KINDS[kind](*values)
-
-
-def _read(file: BinaryIO, size: int) -> bytes:
-    """So many bytes, or fewer where the other side is gone: in the midst of what was told it, that is a fault, and not an end."""
-    try:
-        return file.read(size)
-    except OSError:
-        return b""
+        if not came:
+            return
+        data += came
+        found, at = list[tuple[Any, ...]](), 0
+        while len(data) >= at + SIZE.size and len(data) >= (behind := at + SIZE.size + SIZE.unpack_from(data, at)[0]):
+            kind, *values = marshal.loads(data[at + SIZE.size:behind])
+            found.append(KINDS[kind](*values))
+            at = behind
+        del data[:at]
+        if found:
+            yield found

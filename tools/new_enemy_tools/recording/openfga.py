@@ -24,7 +24,7 @@ from new_enemy_tools.recording.bearing import Bearing
 from new_enemy_tools.recording.bodies import UNHEARD, request_of, response_of
 from new_enemy_tools.recording.core import Asked, Begun, Core
 from new_enemy_tools.recording.grpc_calls import GRPC
-from new_enemy_tools.recording.lines import TUPLES, Came, base_lines, line, time_text, unmapped_line, write_line
+from new_enemy_tools.recording.lines import ODD, TUPLES, Came, base_lines, line, time_text, unmapped_line, write_line
 from new_enemy_tools.recording.log_files import Left, Place
 from new_enemy_tools.recording.messages import Ended, Started
 from new_enemy_tools.recording.overlap import Change, Read
@@ -48,7 +48,6 @@ TOLD = 10 ** 9
 # A check waits so long for a write without an answer, which it may have seen.
 OPEN = 2 * 10 ** 9
 UNSHOWN = "a write was answered that the changes did not show within %g seconds"
-ODD = "changes of a tuple that do not come by turns"
 UNORDERED = "changes that came at once, in an order that is not known"
 CONSISTENT = "a check with an unknown consistency"
 Rules = tuple[Optional[ServiceRules], Refusals]
@@ -230,6 +229,7 @@ class OpenFga:
     def _take_changes(self, message: Changes, core: Core) -> None:
         before = self.places.revision
         changes, odd = by_turns(message.read.changes, lambda change: None if change.given is None else self.live.get(change.given))
+        odd += [change for change in changes if change.is_late]
         rows = self._rows(changes, message)
         if message.read.changes and self.last[1] and message.is_single and not self.horizon:
             # What one page showed came before what it did not show.
@@ -537,16 +537,15 @@ class OpenFga:
         for given, taint in self.tainted.items():
             if any(self.bearing.bears(given, goal) for goal in goals):
                 return taint.why
-        if self.places.is_unsure(window, lambda row: True) and any(self._is_unsure(window, goal) for goal in goals):
+        if window.low == window.high:
+            return self._of_model(one, window)
+        if self.places.is_unsure(window, lambda row: True) and any(self.places.is_unsure(window, partial(self._bears, goal)) for goal in goals):
             return UNORDERED
         low = min(self.places.surely(window, one.since, partial(self._bears, goal)) for goal in goals)
         least = self._known_last(one, window) if one.message.save is not None else low
         if any(self.places.has_unknown(Window(low, least), one.since, partial(self._bears, goal)) for goal in goals):
             return UNORDERED
         return self._of_model(one, Window(max(low, least), window.high))
-
-    def _is_unsure(self, window: Window, goal: Relationship) -> bool:
-        return self.places.is_unsure(window, partial(self._bears, goal))
 
     def _bears(self, goal: Relationship, row: Row) -> bool:
         return not row.changes or any(self.bearing.bears(change.given, goal) for change in row.changes)

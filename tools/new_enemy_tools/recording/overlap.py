@@ -13,14 +13,14 @@ from new_enemy_tools.recording.lines import tuple_list
 class Change:
     """A change of the feed: a tuple and whether it is there now, the service's time, and why it has no form in a log. One that can't be
     read has no tuple, and the userset where that can be read. `revision` is where it stands in the log, once it does; `follows` whether
-    the change before it in the feed was new with it."""
+    the change before it in the feed was new with it; `is_late` whether a change of its tuple that stands behind it was shown before."""
 
-    __slots__ = ("given", "live", "time", "reason", "userset", "revision", "follows")
+    __slots__ = ("given", "live", "time", "reason", "userset", "revision", "follows", "is_late")
 
     def __init__(self, given: Optional[Relationship], live: bool, time: int, reason: Optional[str] = None,
                  userset: Optional[tuple[str, str, str]] = None):
         self.given, self.live, self.time, self.reason, self.userset = given, live, time, reason, userset
-        self.revision, self.follows = 0, False
+        self.revision, self.follows, self.is_late = 0, False, False
 
 
 class Known(NamedTuple):
@@ -116,6 +116,12 @@ class Overlap:
                 new.append(change)
         if any(left.values()):
             return None
+        shown, fresh = set[Optional[Relationship]](), set(map(id, new))
+        for change in reversed(now if new else ()):
+            if id(change) not in fresh:
+                shown.add(change.given)
+            else:
+                change.is_late = change.given in shown
         self.reading += 1
         self.shown = now
         self.since += [(self.reading, change) for change in new]

@@ -30,18 +30,16 @@ class Exchange:
         self.held = bytearray()
         self.is_whole = self.is_passed = self.is_told = self.is_answered = False
         # whether the service says first whether it wants the body
-        self.waits = head.text("expect") is not None
+        self.waits = "expect" in head.values
         self.strange: Optional[str] = None
-        self.save, self.version, self.token = (self._label(head, name) for name in LABELS.values())
+        self.save, self.version, self.token = (self._label(head, name) if name in head.values else None for name in LABELS.values())
         self.request: Optional[bytes] = None
         self.status = 0
         self.encoding: Optional[str] = None
 
-    def _label(self, head: Head, name: str) -> Optional[str]:
+    def _label(self, head: Head, name: str) -> str:
         """What the application says, which is UTF-8."""
-        value = head.values.get(name)
-        if value is None:
-            return None
+        value = head.values[name]
         if name in head.twice:
             self.strange = "%s stands twice" % name.title()
         try:
@@ -105,7 +103,7 @@ class Reader:
 
     def waits(self) -> int:
         """How many bytes are held."""
-        return sum(len(one.held) for one in self.coming) + len(self.requests.data)
+        return len(self.requests.data) + (sum(len(one.held) for one in self.coming) if self.coming else 0)
 
     def passing(self) -> bytes:
         """What goes on to the service now."""
@@ -155,7 +153,7 @@ class Reader:
             one.held = bytearray()
         self.coming.clear()
         self.free += self.requests.data
-        self.requests.data.clear()
+        self.requests.data = b""
 
     # The ends
 

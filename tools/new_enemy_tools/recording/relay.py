@@ -11,9 +11,11 @@ from new_enemy_tools.recording.secured import context_of
 
 # A client is read no further while so much of what it sent can't go on.
 ROOM = 2 << 20
+# What has come is read into this, by one connection after the other: a place of its own for each reading costs more than the reading.
+COMING = memoryview(bytearray(64 << 10))
 
 
-class Side(asyncio.Protocol):
+class Side(asyncio.BufferedProtocol):
     """One end of a connection; what comes goes to the other end."""
 
     def __init__(self, relay: "Relay", reader: Reader, is_client: bool):
@@ -27,7 +29,13 @@ class Side(asyncio.Protocol):
     def connection_made(self, transport: Any) -> None:
         self.transport = transport
 
-    def data_received(self, data: bytes) -> None:
+    def get_buffer(self, sizehint: int) -> memoryview:
+        return COMING
+
+    def buffer_updated(self, nbytes: int) -> None:
+        self.take(bytes(COMING[:nbytes]))
+
+    def take(self, data: bytes) -> None:
         assert self.other is not None
         if self.is_client:
             self.reader.feed(self.reader.requests, data)
@@ -39,10 +47,12 @@ class Side(asyncio.Protocol):
 
     def pass_on(self, client: "Side", service: "Side") -> None:
         """Passes on what may go on to the service, and what was told."""
-        data = self.reader.passing()
-        self.relay.put(service.transport, data)
-        client.is_full = self.reader.waits() > ROOM
-        client.read_or_pause()
+        reader = self.reader
+        self.relay.put(service.transport, reader.passing() if reader.coming or reader.free else b"")
+        is_full = reader.waits() > ROOM
+        if is_full != client.is_full:
+            client.is_full = is_full
+            client.read_or_pause()
 
     def read_or_pause(self) -> None:
         if self.is_full or self.is_stopped:
@@ -175,17 +185,17 @@ class Client(Side):
             service.transport.close()
             return
         if self.early:
-            self.data_received(bytes(self.early))
+            self.take(bytes(self.early))
         if self.has_ended:
             self.eof_received()
-        self.transport.resume_reading()
+        self.read_or_pause()
 
-    def data_received(self, data: bytes) -> None:
+    def take(self, data: bytes) -> None:
         if self.other is None:
             # Before Python 3.11 something may come although reading is paused from the beginning.
             self.early += data
         else:
-            super().data_received(data)
+            super().take(data)
 
     def eof_received(self) -> bool:
         if self.other is None:

@@ -8,6 +8,7 @@ from collections import deque
 from typing import Any, Callable, Iterator, NamedTuple, Optional
 
 from new_enemy_tools.importing.events import Relationship
+from new_enemy_tools.recording.lines import ODD
 from new_enemy_tools.recording.sketches import Change, JoinFault, Sketch, Unreached, Value
 
 NEVER = 1 << 62
@@ -102,6 +103,8 @@ class Spine:
         self.together: list[list[int]] = []
         self.groups: list[list[int]] = []
         self.at: dict[int, int] = {}
+        # tuples that do not come by turns: of these it is not known whether they are there
+        self.odd: set[Relationship] = set()
         # changes of which it was said already what came at once with them
         self.fixed: set[int] = set()
         self.ranks = [self._added(first)]
@@ -122,6 +125,8 @@ class Spine:
         for one in self.groups[place - 1]:
             change = self.changes[one]
             yield from change.before
+            for given in self.odd.intersection(change.tuples):
+                yield {"event": "unmapped", "reason": ODD, "detail": str(given), "userset": [*given[:3]]}
             yield {**change.value, "revision": self.number(place)}
             yield from change.behind
 
@@ -130,7 +135,6 @@ class Spine:
         before = len(self.changes)
         ranks = self._added(sketch)
         others = [one for one in range(before) if one not in ranks]
-        self._refuse_missed(sketch, before, ranks)
         ranks.update(dict.fromkeys(self._in_base(sketch, others), 0))
         self.ranks.append(ranks)
 
@@ -176,17 +180,13 @@ class Spine:
 
     def _by_turns(self, groups: dict[int, list[int]], lead: list[int]) -> list[int]:
         """The groups in their order, but that each tuple comes and goes by turns; without those that go round in a circle by that."""
-        last: dict[Relationship, int] = {}
         behind: dict[int, list[int]] = {}
         waits = dict.fromkeys(groups, 0)
-        for one, change in enumerate(self.changes):
-            here = lead[one]
-            for given in change.tuples:
-                before = last.get(given, here)
-                if before != here:
-                    behind.setdefault(before, []).append(here)
-                    waits[here] += 1
-                last[given] = here
+        for turns in self._turns().values():
+            for before, here in zip(turns, turns[1:]):
+                if lead[before] != lead[here]:
+                    behind.setdefault(lead[before], []).append(lead[here])
+                    waits[lead[here]] += 1
         ready = [group for group, count in waits.items() if not count]
         heapq.heapify(ready)
         found: list[int] = []
@@ -198,6 +198,24 @@ class Spine:
                 if not waits[one]:
                     heapq.heappush(ready, one)
         return found
+
+    def _turns(self) -> dict[Relationship, list[int]]:
+        """The changes of each tuple by turns. A recorder that read a change too late has it behind the next one of its tuple."""
+        of: dict[Relationship, list[int]] = {}
+        for one, change in enumerate(self.changes):
+            for given in change.tuples:
+                of.setdefault(given, []).append(one)
+        for given, listed in of.items():
+            sides = [deque(one for one in listed if bool(self.changes[one].value.get("add")) is comes) for comes in (False, True)]
+            is_there, turns = given in self.first.base, list[int]()
+            while sides[0] or sides[1]:
+                if sides[not is_there]:
+                    is_there = not is_there
+                else:
+                    self.odd.add(given)
+                turns.append(sides[is_there].popleft())
+            of[given] = turns
+        return of
 
     def _added(self, sketch: Sketch) -> dict[int, int]:
         """Of each change of a log its own step."""
@@ -223,17 +241,6 @@ class Spine:
                 self.together.append(group)
         return ranks
 
-    def _refuse_missed(self, sketch: Sketch, before: int, ranks: dict[int, int]) -> None:
-        """Raises JoinFault where the other logs have a later change of a tuple, and not one before it."""
-        missed: set[Relationship] = set()
-        for one in ranks:
-            tuples = self.changes[one].tuples
-            if one >= before:
-                missed.update(tuples)
-            elif not missed.isdisjoint(tuples):
-                raise JoinFault("%s has a change of %s that the other logs do not have, and they have a later one" % (
-                    sketch.given.name, next(given for given in tuples if given in missed)))
-
     def _in_base(self, sketch: Sketch, others: list[int]) -> list[int]:
         """Of the changes that a log does not have, those that are in its base state; the others came when it had ended."""
         assert sketch.count is not None and self.first.count is not None
@@ -242,10 +249,42 @@ class Spine:
         if len(tuples) < count:
             raise Unreached(sketch.given.name, "begins with %d changes that no other log has; give logs of which each begins before the one "
                             "before has ended" % (count - len(tuples)))
-        found = set(tuples[:count]) | self._rules_in_base(sketch, [one for one in others if self.changes[one].is_rules])
-        listed = [one for one in others if one in found]
-        refuse_other_base(sketch, state_of(self.first.base, [self.changes[one] for one in listed]), self.first.unformed)
-        return listed
+        turns = self._turns()
+        unformed = self.first.unformed.union(one[:3] for one in self.odd)
+        found = self._had(sketch, turns, tuples, count, unformed | sketch.unformed)
+        by_turns = [self.changes[one] for listed in turns.values() for one in listed if one in found]
+        refuse_other_base(sketch, state_of(self.first.base, by_turns), unformed)
+        found |= self._rules_in_base(sketch, [one for one in others if self.changes[one].is_rules])
+        return [one for one in others if one in found]
+
+    def _had(self, sketch: Sketch, turns: dict[Relationship, list[int]], others: list[int], count: int,
+             unformed: set[tuple[str, ...]]) -> set[int]:
+        """Of the changes that a log does not have, so many that it began with: the first ones, but that of changes that came at once a later one
+        may be in its base state, and an earlier one not. What has no form, no state tells of."""
+        had, rest = set(others[:count]), set(others[count:])
+        least: list[int] = []
+        most: list[int] = []
+        either: list[tuple[int, int]] = []
+        for given, listed in turns.items():
+            inside, behind = [one for one in listed if one in had], [one for one in listed if one in rest]
+            is_there = bool(self.changes[inside[-1]].value.get("add")) if inside else given in self.first.base
+            if is_there == (given in sketch.base) or given[:3] in unformed:
+                continue
+            if inside and behind:
+                either.append((behind[0], inside[-1]))
+            else:
+                least += behind[:1]
+                most += inside[-1:]
+        for more, less in sorted(either):
+            if len(least) <= len(most):
+                least.append(more)
+            else:
+                most.append(less)
+        apart = len(most) - len(least)
+        unread = [one for one in others if not self.changes[one].tuples]
+        least += [one for one in unread if one in rest][:max(0, apart)]
+        most += [one for one in reversed(unread) if one in had][:max(0, -apart)]
+        return had.union(least).difference(most) if len(least) == len(most) else had
 
     def _rules_in_base(self, sketch: Sketch, others: list[int]) -> set[int]:
         """The models that came up to that with which a log begins."""
