@@ -11,7 +11,7 @@ use Rattle.trace_lines.specs.Values.{EntryValue, TraceValue, entry_lines}
 use Rattle.findings.specs.declared.finding.Finding.{Finding}
 use Rattle.windows.specs.Growth.{IsSettled}
 use Rattle.token_order.proofs.Lines.{line_before}
-use Rattle.follow.specs.SoFar.{AreSettledTo, IsThrough}
+use Rattle.follow.specs.Heartbeats.{AreSettledTo, IsThrough}
 
 -- an entry more is settled
 pub settled_next : (t : TraceValue) (n : ℕ) (x : EntryValue) → AreSettledTo t n → slice_get t.entries n ≡ Some x → IsSettled t x

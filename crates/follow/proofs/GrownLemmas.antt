@@ -85,11 +85,23 @@ of_bytes a t said = record {
   formed = formed_by_bytes a t said;
 }
 
-settled_still : {k : ℕ} (t u : TraceValue) → Begins k t u → (e : EntryValue) → IsSettled t e → IsSettled u e
+pub settled_still : {k : ℕ} (t u : TraceValue) → Begins k t u → (e : EntryValue) → IsSettled t e → IsSettled u e
 settled_still t u b e settled =
     ap (list_any (λ (c : Commit). nat_le e.snapshot c.at)) b.goes.committed
     ∙ list_any-append (λ (c : Commit). nat_le e.snapshot c.at) t.commits b.goes.commits
     ∙ ap (λ (x : Bool). x || list_any (λ (c : Commit). nat_le e.snapshot c.at) b.goes.commits) settled
+
+-- whole lines, and more behind them
+pub begins_whole : (a more : List ℕ) (t u : TraceValue) → trace_of true (a ++ 10 ∷ []) ≡ Ok t
+    → trace_of true ((a ++ 10 ∷ []) ++ more) ≡ Ok u → Begins (length (parts a)) t u
+begins_whole a more t u one two =
+    let first : (x : TraceValue) × (trace_of true (a ++ 10 ∷ []) ≡ Ok x) × GoesOn (length (parts a)) x u = begins a more u two in
+    let same : first.0 ≡ t = cc (first.1, one) in
+    subst (λ (x : TraceValue). Begins (length (parts a)) x u) same (record {
+      goes = first.2;
+      first = of_bytes (a ++ 10 ∷ []) first.0 first.1;
+      whole = of_bytes ((a ++ 10 ∷ []) ++ more) u two;
+    })
 
 pub followed_longer : (a more : List ℕ) (t u : TraceValue) (f : Follower) → trace_of true (a ++ 10 ∷ []) ≡ Ok t
     → trace_of true ((a ++ 10 ∷ []) ++ more) ≡ Ok u → AreInPlace t → AreInPlace u → IsFollowed t f → IsAtEnd t f.monitor
@@ -107,15 +119,5 @@ followed_longer a more t u f one two here there followed ended = record {
       (sym (same_entry t u b.goes here there i (omega (arith, lt, le))) ∙ at) lt);
 }
   where
-    first : (x : TraceValue) × (trace_of true (a ++ 10 ∷ []) ≡ Ok x) × GoesOn (length (parts a)) x u
-    first = begins a more u two
-
-    same : first.0 ≡ t
-    same = cc (first.1, one)
-
     b : Begins (length (parts a)) t u
-    b = subst (λ (x : TraceValue). Begins (length (parts a)) x u) same (record {
-      goes = first.2;
-      first = of_bytes (a ++ 10 ∷ []) first.0 first.1;
-      whole = of_bytes ((a ++ 10 ∷ []) ++ more) u two;
-    })
+    b = begins_whole a more t u one two

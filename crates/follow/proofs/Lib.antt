@@ -1,3 +1,4 @@
+pub mod BeatLemmas
 pub mod FollowerLemmas
 pub mod GrownLemmas
 pub mod MadeLemmas

@@ -1,5 +1,5 @@
 -- What following a trace comes to.
-use Rattle.std.specs.Prelude.{◌≡◌, ◌⊎◌, ℕ, true, false, List, [], ◌++◌, length, take, Result, Ok, Err, IfOk, IfErr, OnOk}
+use Rattle.std.specs.Prelude.{◌≡◌, ◌⊎◌, ℕ, true, false, List, [], ◌∷◌, ◌++◌, length, take, Result, Ok, Err, IfOk, IfErr, OnOk}
 use Rattle.std.specs.List.{flat_map}
 use Rattle.trace_lines.specs.Traces.{trace_of}
 use Rattle.trace_lines.specs.Values.{TraceValue}
@@ -17,24 +17,34 @@ use Rattle.audit.specs.declared.plain.Verdict.{Verdict}
 use Rattle.audit.specs.declared.plain.Verdict.TheVariants.{Clean}
 use Rattle.audit.specs.declared.plain.AuditFault.{AuditFault}
 use Rattle.audit.specs.declared.plain.AuditFault.TheVariants as faults
+use Rattle.follow.specs.Heartbeats.{AreTrue}
 use Rattle.follow.specs.Pieces.{Piece, text_of, told_in}
 use Rattle.follow.specs.SoFar.{IsToldOf}
 
 -- All of the bytes say a trace, and the end of the text tells what is left behind what was told: together that is what
 -- is found on it by evidence that is made, each finding once (`TellsAll`); and behind it the report's last lines, of
--- which the verdict is the last.
-abbrev pub Ends : List ℕ → List Finding → List ℕ → Verdict → Type 0
-Ends a told ending v =
-    (t : TraceValue) × (trace_of true a ≡ Ok t) × (rest : List Finding) × TellsAll IsMade t [] (told ++ rest)
-    × (ending ≡ flat_map line_text rest ++ last_lines (told ++ rest) (length t.entries)) × (v ≡ verdict_of (told ++ rest))
+-- which the verdict is the last. The heartbeats among the pieces are true of the whole.
+pub record Ends (a : List ℕ) (pieces : List Piece) (ending : List ℕ) (v : Verdict) : Type 0 where
+  pub trace : TraceValue
+  pub said : trace_of true a ≡ Ok trace
+  pub rest : List Finding
+  pub all : TellsAll IsMade trace [] (told_in pieces ++ rest)
+  pub beats : AreTrue trace pieces rest
+  pub text : ending ≡ flat_map line_text rest ++ last_lines (told_in pieces ++ rest) (length trace.entries)
+  pub verdict : v ≡ verdict_of (told_in pieces ++ rest)
 
 -- what was told as the lines came went out, with heartbeats between, and the end of the text
 abbrev pub Follows : List ℕ → List ℕ → List ℕ → Verdict → Type 0
 Follows a old new v =
-    (pieces : List Piece) × (ending : List ℕ) × Ends a (told_in pieces) ending v × (new ≡ old ++ (text_of pieces ++ ending))
+    (pieces : List Piece) × (ending : List ℕ) × Ends a pieces ending v × (new ≡ old ++ (text_of pieces ++ ending))
 
--- Some first bytes of such a text went out. Each finding that was told as the lines came is told of the lines so far;
--- an end was told of the whole trace alone.
+-- a log that begins with some lines says u: these alone, or whole lines and more behind them
+abbrev pub GoesOnAs : List ℕ → TraceValue → Type 0
+GoesOnAs lines u = (trace_of true lines ≡ Ok u)
+    ⊎ ((a more : List ℕ) × (lines ≡ a ++ 10 ∷ []) × (trace_of true (lines ++ more) ≡ Ok u))
+
+-- Some first bytes of such a text went out. Each finding that was told as the lines came is told of the lines so far, and
+-- each heartbeat is true of these and of each longer log; an end was told of the whole trace alone.
 pub record WentOut (came old new : List ℕ) : Type 0 where
   pub pieces : List Piece
   pub ending : List ℕ
@@ -44,7 +54,8 @@ pub record WentOut (came old new : List ℕ) : Type 0 where
   pub rest : List ℕ
   pub among : came ≡ lines ++ rest
   pub told : IsToldOf lines (told_in pieces)
-  pub ends : (ending ≡ []) ⊎ ((v : Verdict) × Ends came (told_in pieces) ending v)
+  pub beats : (u : TraceValue) → GoesOnAs lines u → AreTrue u pieces []
+  pub ends : (ending ≡ []) ⊎ ((v : Verdict) × Ends came pieces ending v)
 
 -- A trace was followed.
 pub record Followed (trace : Reading) (out : Writing) (result : Result Verdict AuditFault) : Type 0 where

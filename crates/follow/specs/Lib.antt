@@ -1,3 +1,4 @@
 pub mod Following
+pub mod Heartbeats
 pub mod Pieces
 pub mod SoFar

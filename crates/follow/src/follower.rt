@@ -1,11 +1,11 @@
 //! What is told of a log that grows, as the lines of the report.
 
-ghost use Rattle.std.specs.Prelude.{◌≡◌, ◌≤◌, ◌++◌, [], length, IfOk, IfSome, OnOk, string_bytes};
+ghost use Rattle.std.specs.Prelude.{◌≡◌, ◌≤◌, [], length, IfOk, IfSome, string_bytes};
 ghost use Rattle.trace_lines.specs.Values.{TraceValue};
 ghost use Rattle.audit.specs.Audit.{verdict_of};
 ghost use Rattle.monitor.specs.Standing.{IsAtEnd};
-ghost use Rattle.follow.specs.Pieces.{Piece, piece_text};
-ghost use Rattle.follow.specs.SoFar.{AreSettledTo, IsFollowed, IsThrough, TellsRest};
+ghost use Rattle.follow.specs.Heartbeats.{AreSettledTo, Beats, IsThrough};
+ghost use Rattle.follow.specs.SoFar.{IsFollowed, TellsPiece, TellsRest};
 
 use crate::heartbeat::{Heartbeat, push_heartbeat, settled_from};
 use audit::{Finds, MakingJudge, Verdict};
@@ -62,8 +62,7 @@ impl Follower {
         requires followed { IsFollowed trace.now self.old }
         ensures followed { IsFollowed trace.now self.new }
         ensures same { (self.new.monitor ≡ self.old.monitor) × (self.new.told ≡ self.old.told) }
-        ensures through { IfSome result (λ h. IsThrough trace.now h.line h.entries) }
-        ensures told { IfSome result (λ h. h.findings ≡ length self.old.told.items) }
+        ensures beats { IfSome result (Beats trace.now self.old.told.items line) }
     {
         let line = line?;
         let judged = trace.len().saturating_sub(self.monitor.waiting.len());
@@ -85,11 +84,9 @@ impl Follower {
     /// only where memory runs out; the follower is then no longer of use.
     pub fn tell(&mut self, trace: &Trace, line: Option<u64>) -> Result<String, AllocError>
         requires { IsFollowed trace.now self.old }
-        ensures followed { OnOk result (IsFollowed trace.now self.new) }
-        ensures all { OnOk result (IsAtEnd trace.now self.new.monitor) }
-        ensures text { IfOk result (λ s. (p : Piece) × (self.new.told.items ≡ self.old.told.items ++ p.told)
-            × (string_bytes s ≡ piece_text p)) }
+        ensures { IfOk result (λ s. TellsPiece trace.now line self.old self.new (string_bytes s)) }
     {
+        stand_in_order(trace);
         let before = self.told.len();
         let mut judge = self.judge(trace);
         tell_further(trace, &mut self.monitor, &mut judge, &mut self.told)?;
@@ -135,13 +132,14 @@ impl Follower {
 fn last_settled_line(trace: &Trace, settled: usize, line: u64) -> Option<u64>
     requires settled { AreSettledTo trace.now settled }
     requires within { settled ≤ length trace.now.entries }
-    ensures { IfSome result (λ l. IsThrough trace.now l settled) }
+    ensures through { IfSome result (λ l. IsThrough trace.now l settled) }
+    ensures within { IfSome result (λ l. l ≤ line) }
 {
     if settled >= trace.len() {
         return Some(line);
     }
     match trace.entry(settled).line {
         0 => None,
-        next => Some(next - 1),
+        next => Some(line.min(next - 1)),
     }
 }

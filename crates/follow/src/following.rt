@@ -31,7 +31,7 @@ fn tell<W: Sink>(
     out: &mut W,
 ) -> Result<TraceBuilder, AuditFault>
     requires { AreInPlace log → IsFollowed log follower.old }
-    ensures { Told (λ text l. (l ≡ log) × TellsPiece log follower.old follower.new text)
+    ensures { Told (λ text l. (l ≡ log) × TellsPiece log line follower.old follower.new text)
         (writes W.taken W.flushes W.failures W.idle W.contents out.old out.new) result }
 {
     let paused = log.pause();
@@ -66,7 +66,8 @@ fn tell_end<W: Sink>(
 /// lines of the report of [`audit_made`](audit::audit_made), in another order, and behind the last line come what is
 /// left and the report's last lines.
 ///
-/// With heartbeats a line says behind what was told how far all entries are settled, where any was settled.
+/// With heartbeats a line says behind what was told how far all entries are settled, where any was settled; of these
+/// nothing is told any more. Behind the last line comes none.
 ///
 /// A trace is refused as by [`audit_made`](audit::audit_made), and what was told before stands. Under `Write` so many
 /// bytes of what was to be written last went out.
@@ -90,7 +91,7 @@ pub fn follow<A: Source, W: Sink>(
             log = tell(log, line, &mut follower, out)?;
         }
     }
-    let line = heartbeats.then_some(lines.number);
-    let log = tell(log, line, &mut follower, out)?;
+    // the last lines of the report say more than a heartbeat
+    let log = tell(log, None, &mut follower, out)?;
     tell_end(log, &mut follower, out)
 }

@@ -2,8 +2,8 @@
 
 ghost use Rattle.std.specs.Prelude.{◌≡◌, ◌≤◌, ◌++◌, true, nat_le, length, OnOk, string_bytes};
 ghost use Rattle.std.specs.List.{list_any};
+ghost use Rattle.follow.specs.Heartbeats.{AreSettledTo};
 ghost use Rattle.follow.specs.Pieces.{beat_text, heartbeat_text, number_text};
-ghost use Rattle.follow.specs.SoFar.{AreSettledTo};
 
 use std::alloc::AllocError;
 use std::fmt::Write as _;

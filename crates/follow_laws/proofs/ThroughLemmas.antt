@@ -172,7 +172,7 @@ module _ {k : ℕ} (t u : TraceValue) (b : Begins k t u) (evidence : List (Optio
         settled evidence evidence refl) ∙ none_found e.line (moments t e) (found_on t evidence i e) untold have_lines
 
 -- an entry of the longer log that stands on one of the first lines is an entry of these
-first_entry : (k : ℕ) (es more : List EntryValue) → AllByRecursion (λ e. k < e.line) more → (i : ℕ) (e : EntryValue)
+pub first_entry : (k : ℕ) (es more : List EntryValue) → AllByRecursion (λ e. k < e.line) more → (i : ℕ) (e : EntryValue)
     → slice_get (es ++ more) i ≡ Some e → e.line ≤ k → slice_get es i ≡ Some e
 first_entry k [] [] later i e at le = cc
 first_entry k [] (x ∷ more) later zero e at le =
@@ -195,7 +195,7 @@ first_entry k (x ∷ es) more later zero e at le = at
 first_entry k (x ∷ es) more later (suc i) e at le = first_entry k es more later i e at le
 
 -- what is found on the entries from number i on is beyond line n, where nothing is found up to there
-on_beyond : (n line : ℕ) → n < line → (found : List (Option What)) → All (λ f. n < f.line) (on_line line found)
+pub on_beyond : (n line : ℕ) → n < line → (found : List (Option What)) → All (λ f. n < f.line) (on_line line found)
 on_beyond n line lt [] = All-nil (λ (f : Finding). n < f.line)
 on_beyond n line lt (None ∷ found) = on_beyond n line lt found
 on_beyond n line lt (Some what ∷ found) =

@@ -273,7 +273,9 @@ module _ (t : TraceValue) (placed : HasPlacedCommits t) where
 
     -- ---- the line that shows its snapshot open
 
-    pub opens_at : (l : ℕ) → open_snapshot t e ≡ Some l → (e.before < length t.commits) × (l ≡ line_of t e.before)
+    -- a commit behind it at or below its snapshot, the first one there
+    opens_at : (l : ℕ) → open_snapshot t e ≡ Some l
+        → (e.before < length t.commits) × (l ≡ line_of t e.before) × (time_of t e.before ≤ e.snapshot)
     opens_at l is = by_inside (cases_lt e.before (length t.commits))
       where
         within : e.before ≤ length t.commits
@@ -289,16 +291,16 @@ module _ (t : TraceValue) (placed : HasPlacedCommits t) where
         shown = ap (λ (cs : List CommitLine). cond (list_any covered cs) (first_line cs) None) (sym later) ∙ is
 
         by_time : e.before < length t.commits → (time_of t e.before ≤ e.snapshot) ⊎ (e.snapshot < time_of t e.before)
-            → (e.before < length t.commits) × (l ≡ line_of t e.before)
+            → (e.before < length t.commits) × (l ≡ line_of t e.before) × (time_of t e.before ≤ e.snapshot)
         by_time inside (inl le) =
             let both = first_covered t.commit_lines t.commits e.before e.line count placed.timestamps within stands.earlier stands.later e.snapshot inside le in
-            (inside, let h : Some (line_of t e.before) ≡ Some l = sym (rw (both.0, both.1) refl) ∙ shown in cc)
+            (inside, (let h : Some (line_of t e.before) ≡ Some l = sym (rw (both.0, both.1) refl) ∙ shown in cc), le)
         by_time inside (inr lt) =
             let none = none_covered t.commit_lines t.commits e.before e.line count placed.timestamps within stands.earlier stands.later e.snapshot lt in
             let h : None ≡ Some l = sym (rw none refl) ∙ shown in absurd cc
 
         by_inside : (e.before < length t.commits) ⊎ (length t.commits ≤ e.before)
-            → (e.before < length t.commits) × (l ≡ line_of t e.before)
+            → (e.before < length t.commits) × (l ≡ line_of t e.before) × (time_of t e.before ≤ e.snapshot)
         by_inside (inl inside) = elim (cases_lt e.snapshot (time_of t e.before)) [
           | inl lt ↦ by_time inside (inr lt)
           | inr le ↦ by_time inside (inl le)
@@ -316,3 +318,28 @@ module _ (t : TraceValue) (placed : HasPlacedCommits t) where
         by_line (Some l) is =
             let there = opens_at l is in
             not_at k l (λ same. differ there.0 (sym there.1 ∙ same))
+
+    -- where a commit before that reaches its snapshot, none of its line
+    pub opens_nowhere : (c : ℕ) → c < length t.commits → IsReached t c e.snapshot
+        → is_at (line_of t c) (open_snapshot t e) ≡ false
+    opens_nowhere c inside (j, below, le) = by_line (open_snapshot t e) refl
+      where
+        by_line : (o : Option ℕ) → open_snapshot t e ≡ o → is_at (line_of t c) o ≡ false
+        by_line None is = refl
+        by_line (Some l) is =
+            let there = opens_at l is in
+            not_at (line_of t c) l (λ same. apart there.0 there.1 there.2 same)
+          where
+            apart : e.before < length t.commits → l ≡ line_of t e.before → time_of t e.before ≤ e.snapshot
+                → l ≡ line_of t c → ⊥
+            apart behind here early same = elim (cases_lt e.before c) [
+              | inl lt ↦ let up = lines_rise e.before c lt inside in omega (arith, here, same, up)
+              | inr ge ↦ elim (cases_lt c e.before) [
+                | inl lt ↦ let up = lines_rise c e.before lt behind in omega (arith, here, same, up)
+                | inr le_too ↦
+                    let first : e.before ≡ c = omega (arith, ge, le_too) in
+                    let times = ap (time_of t) first in
+                    let up = times_rise j c below inside in
+                    omega (arith, times, up, early, le)
+              ]
+            ]

@@ -62,7 +62,7 @@ module _ {k : ℕ} (t u : TraceValue) (goes : GoesOn k t u) (old : AreInPlace t)
       ap (λ (ns : List ℕ). get_or ns c 0) goes.on_lines
       ∙ get_or-append t.commit_lines goes.commit_lines 0 c (omega (arith, lt, count))
 
-  reached_still : (n s : ℕ) → n ≤ length t.commits → IsReached t n s → IsReached u n s
+  pub reached_still : (n s : ℕ) → n ≤ length t.commits → IsReached t n s → IsReached u n s
   reached_still n s within (c, lt, le) = (c, lt, let same = same_time c (omega (arith, lt, within)) in omega (arith, le, same))
 
   reached_before : (n s : ℕ) → n ≤ length t.commits → IsReached u n s → IsReached t n s

@@ -2,6 +2,7 @@
 use Rattle.std.specs.Prelude.{◌≡◌, ℕ, ◌+◌, ◌<◌, ◌≤◌, ◌⊎◌, List, All, length, map, get_or, slice_get, Contains, Option, Some, None}
 use Rattle.version_chains.specs.Commits.{Commit}
 use Rattle.trace_lines.specs.Values.{EntryValue, TraceValue}
+use Rattle.findings.specs.declared.finding.Finding.{Finding}
 use Rattle.monitor.specs.declared.monitor.Monitor.{Monitor}
 
 -- the timestamp of commit c, and its line
@@ -59,6 +60,15 @@ pub record TakesCommit (t : TraceValue) (m n : Monitor) (k : ℕ) : Type 0 where
 -- the next line that says something is taken, which is line k
 abbrev pub Takes : TraceValue → Monitor → Monitor → ℕ → Type 0
 Takes t m n k = TakesEntry t m n k ⊎ TakesCommit t m n k
+
+-- all entries up to line n were taken, and commits that were taken reach their snapshots
+pub record IsPast (t : TraceValue) (m : Monitor) (n : ℕ) : Type 0 where
+  pub taken : (i : ℕ) (e : EntryValue) → slice_get t.entries i ≡ Some e → e.line ≤ n → i < m.entries
+  pub reached : (i : ℕ) (e : EntryValue) → slice_get t.entries i ≡ Some e → e.line ≤ n → IsReached t m.commits e.snapshot
+
+-- of no entry up to a line that the monitor is past any of this is told
+abbrev pub AreBehind : TraceValue → Monitor → List Finding → Type 0
+AreBehind t m told = (n : ℕ) → IsPast t m n → All (λ f. n < f.line) told
 
 -- all entries and all commits were taken
 pub record IsAtEnd (t : TraceValue) (m : Monitor) : Type 0 where

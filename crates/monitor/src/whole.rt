@@ -1,9 +1,9 @@
 //! What a monitor tells of all lines that a trace has.
 
-ghost use Rattle.std.specs.Prelude.{◌≡◌, ◌++◌, List, OnOk};
+ghost use Rattle.std.specs.Prelude.{◌≡◌, ◌++◌, ℕ, List, OnOk};
 ghost use Rattle.findings.specs.declared.finding.Finding.{Finding};
 ghost use Rattle.monitor.specs.SoFar.{IsTold};
-ghost use Rattle.monitor.specs.Standing.{IsAtEnd, Stands};
+ghost use Rattle.monitor.specs.Standing.{AreBehind, IsAtEnd, IsPast, Stands};
 ghost use Rattle.monitor.specs.Whole.{TellsAll};
 
 use crate::judge::Judge;
@@ -28,7 +28,10 @@ pub fn tell_further<J: Judge>(
     ensures judge { J.of judge.new ≡ J.of judge.old }
     ensures told { OnOk result ((start : List Finding) → IsTold J.allows trace.now monitor.old start told.old.items
         → IsTold J.allows trace.now monitor.new start told.new.items) }
-    ensures behind { OnOk result ((more : List Finding) × (told.new.items ≡ told.old.items ++ more)) }
+    // What is told is on no entry that was settled before; those stay so.
+    ensures behind { OnOk result ((more : List Finding) × (told.new.items ≡ told.old.items ++ more)
+        × AreBehind trace.now monitor.old more) }
+    ensures past { OnOk result ((n : ℕ) → IsPast trace.now monitor.old n → IsPast trace.now monitor.new n) }
 {
     stand_in_order(trace);
     entries_rise(trace);

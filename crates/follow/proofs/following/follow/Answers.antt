@@ -1,4 +1,4 @@
-use Rattle.std.proofs.Common.{◌≡◌, ◌∙◌, ◌+◌, ◌≤◌, ℕ, Bool, List, [], ◌∷◌, ◌++◌, true, false, Result, Ok, append_assoc, arith, refl, sym, ap, subst, append-nil}
+use Rattle.std.proofs.Common.{◌≡◌, ◌∙◌, ◌+◌, ◌≤◌, ℕ, Bool, List, [], ◌∷◌, ◌++◌, true, false, Result, None, Ok, append_assoc, arith, refl, sym, ap, subst, append-nil}
 use Rattle.std.proofs.lemmas.Bool.{true≢false}
 use Rattle.std.proofs.lemmas.List.{append_cancel_left}
 use Rattle.trace_lines.specs.TraceReads.{IsTraceSoFar}
@@ -11,7 +11,7 @@ use Rattle.audit.proofs.KindLemmas.{handed_on, kinds-more}
 use Rattle.audit.proofs.Readers.{behind_at_rest, few_at_rest, next_at_rest}
 use Rattle.follow.specs.Following.{Followed}
 use Rattle.follow.proofs.GrownLemmas.{first_lines, said_lines}
-use Rattle.follow.proofs.RunLemmas.{IsRunSoFar, came_since, ended, fine_so_far, fine_whole, followed_now, held_on, never_failed, nothing_at_all, nothing_went, refused, run_first, run_line, run_told, stopped, tell_stopped, text_told, used_grows}
+use Rattle.follow.proofs.RunLemmas.{IsRunSoFar, IsTextOf, came_since, ended, fine_so_far, fine_whole, followed_now, held_on, never_failed, no_lines, nothing_at_all, nothing_went, refused, run_first, run_line, run_told, stopped, tell_stopped, text_whole, used_grows, whole_lines}
 use Rattle.follow.proofs.following.follow.Goals as goal
 
 pub returns-in_err-lines-clause-followed : goal.returns-in_err-lines-clause-followed
@@ -96,7 +96,11 @@ returns-in_err-log-clause-followed g c =
     c.take_line.new.builder
     (fine_so_far g.A.Source.given g.A.Source.ends g.A.Source.failures g.A.Read.remaining c.args.trace.now c.take_line.new.reader
     c.take_line.new.builder c.take_line.new.lines further c.holds_line.ensures.few)
-    said now.text c.in_err-log.ensures (further.used ++ c.take_line.new.lines.lines) c.take_line.new.lines.lines
+    said c.then_some-line.result (whole_lines g.A.Source.given g.A.Source.ends g.A.Source.failures g.A.Read.remaining c.args.trace.now
+    c.take_line.new.reader c.take_line.new.builder c.take_line.new.lines further
+    (let one = c.loop-follower.invariant.number in omega (arith, one, (c.in_ok-take_line.ensures.next (ap Ok c.if-branch.true)).0))
+    c.args.heartbeats c.then_some-line.result c.then_some-line.ensures)
+    now c.in_err-log.ensures (further.used ++ c.take_line.new.lines.lines) c.take_line.new.lines.lines
     (further.gave ∙ append_assoc (g.A.Source.given c.args.trace.now) further.used c.take_line.new.lines.lines) refl)
 
 pub loop-follower-preserved : goal.loop-follower-preserved
@@ -154,8 +158,11 @@ loop-follower-preserved-then-not-holds_line g c =
           (g.W.Sink.taken c.tell.new.out) c.tell.new.follower) (sym same) (
             further,
             run_told further.used start (g.W.Sink.taken c.loop-follower.out) c.loop-follower.follower c.tell.new.follower
-                now.text c.take_line.new.builder said told.text.0 told.text.1.1 whole.0 whole.1 (g.W.Sink.taken c.tell.new.out)
-                told.text.2,
+                now c.take_line.new.builder said told.text.0 c.then_some-line.result (whole_lines g.A.Source.given g.A.Source.ends g.A.Source.failures g.A.Read.remaining c.args.trace.now
+                c.take_line.new.reader c.take_line.new.builder c.take_line.new.lines further
+                (let one = c.loop-follower.invariant.number in omega (arith, one, (c.in_ok-take_line.ensures.next (ap Ok c.if-branch.true)).0))
+                c.args.heartbeats c.then_some-line.result c.then_some-line.ensures)
+                told.text.1.1 whole.0 whole.1 (g.W.Sink.taken c.tell.new.out) told.text.2,
           );
       next = subst (λ (t : TraceValue). next_line t ≤ c.take_line.new.lines.number) (sym same) next.1;
       room = room.0;
@@ -204,7 +211,8 @@ returns-in_err-log-2-clause-followed g c =
     (writer g.W.Sink.taken g.W.Sink.flushes g.W.Sink.failures g.W.Sink.idle g.W.Write.contents c.loop-follower.out)
     (writer g.W.Sink.taken g.W.Sink.flushes g.W.Sink.failures g.W.Sink.idle g.W.Write.contents c.tell-2.new.out)
     c.loop-follower.invariant.kept c.loop-follower.invariant.held _ came c.loop-follower.follower c.tell-2.new.follower
-    c.take_line.new.builder (fine_whole _ c.take_line.new.builder read) read.given.1.2 now.text c.in_err-log-2.ensures came []
+    c.take_line.new.builder (fine_whole _ c.take_line.new.builder read) read.given.1.2 None (no_lines came) now
+    c.in_err-log-2.ensures came []
     read.given.1.1 (sym (append-nil came)))
 
 pub returns-clause-followed : goal.returns-clause-followed
@@ -232,8 +240,10 @@ returns-clause-followed g c =
     (held_on before between after c.loop-follower.invariant.held told.held) c.tell_end.result came c.tell-2.new.follower
     c.tell_end.new.follower c.in_ok-log-2.log (fine_whole _ c.take_line.new.builder read)
     (read.given.0, (came, read.given.1.1, refl)) (read.given.1.2 ∙ ap (λ (t : TraceValue). Ok t) (sym same))
-    (text_told came start (g.W.Sink.taken c.loop-follower.out) c.loop-follower.follower c.tell-2.new.follower now.text
-    c.take_line.new.builder read.given.1.2 told.text.0 told.text.1.1 (g.W.Sink.taken c.tell-2.new.out) told.text.2)
+    (subst (IsTextOf came start (g.W.Sink.taken c.tell-2.new.out) c.tell-2.new.follower) (sym same)
+    (text_whole came start (g.W.Sink.taken c.loop-follower.out) c.loop-follower.follower c.tell-2.new.follower now
+    c.take_line.new.builder read.given.1.2 told.text.0 None (no_lines came) told.text.1.1 (g.W.Sink.taken c.tell-2.new.out)
+    told.text.2))
     c.tell_end.ensures.right c.tell_end.ensures.told
 
 pub returns-clause-kinds : goal.returns-clause-kinds

@@ -1,5 +1,5 @@
 use Rattle.std.proofs.Common.{◌-◌, ◌≤◌, length}
-use Rattle.follow.specs.SoFar.{AreSettledTo}
+use Rattle.follow.specs.Heartbeats.{AreSettledTo}
 use Rattle.follow.proofs.heartbeat.settled_from.Given as goal
 
 abbrev pub invariant-loop-n : goal.invariant-loop-n

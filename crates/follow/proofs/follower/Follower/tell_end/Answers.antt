@@ -6,6 +6,7 @@ use Rattle.std.specs.Prelude.{is_none}
 use Rattle.follow_laws.specs.Begun.{IsOfBytes}
 use Rattle.follow_laws.specs.Told.{told_from}
 use Rattle.monitor.specs.Telling.{TellsLeft}
+use Rattle.monitor.proofs.PastLemmas.{behind_left}
 use Rattle.monitor.proofs.RunLemmas.{told_all}
 use Rattle.audit.specs.Made.{IsMade}
 use Rattle.follow.proofs.FollowerLemmas.{cut_behind}
@@ -27,6 +28,7 @@ returns c =
       text = record {
         rest = rest;
         behind = left.2;
+        silent = λ n past. behind_left t placed rising c.args.self.now.monitor c.requires.followed.stands n past left.0;
         all = told_all t placed rising IsMade c.args.self.now.monitor [] c.args.self.now.told.items c.end.new.told.items good
             c.requires.followed.told c.requires.all left;
         is = c.in_ok-push_last_lines.ensures

@@ -1,0 +1,38 @@
+-- What a heartbeat says of a log.
+use Rattle.std.specs.Prelude.{◌≡◌, ℕ, ◌<◌, ◌≤◌, List, [], ◌∷◌, ◌++◌, All, length, slice_get, Option, Some}
+use Rattle.trace_lines.specs.Values.{EntryValue, TraceValue}
+use Rattle.findings.specs.declared.finding.Finding.{Finding}
+use Rattle.windows.specs.Growth.{IsSettled}
+use Rattle.follow.specs.Pieces.{Piece, told_in}
+use Rattle.follow.specs.declared.heartbeat.Heartbeat.{Heartbeat}
+
+-- some commit is at or above the snapshot of each of the first n entries
+abbrev pub AreSettledTo : TraceValue → ℕ → Type 0
+AreSettledTo t n = (i : ℕ) (e : EntryValue) → slice_get t.entries i ≡ Some e → i < n → IsSettled t e
+
+-- all entries up to a line are settled, and there are so many
+pub record IsThrough (t : TraceValue) (line entries : ℕ) : Type 0 where
+  pub settled : (i : ℕ) (e : EntryValue) → slice_get t.entries i ≡ Some e → e.line ≤ line → IsSettled t e
+  pub counted : (i : ℕ) (e : EntryValue) → slice_get t.entries i ≡ Some e → e.line ≤ line → i < entries
+  pub there : entries ≤ length t.entries
+
+-- behind what was told of a log so far, whose last line is given: it names a line up to that one
+pub record Beats (t : TraceValue) (told : List Finding) (line : Option ℕ) (h : Heartbeat) : Type 0 where
+  pub last : ℕ
+  pub given : line ≡ Some last
+  pub within : h.line ≤ last
+  pub through : IsThrough t h.line h.entries
+  pub findings : h.findings ≡ length told
+
+-- True of a log of which this was told before it, and this behind it: the entries up to its line are settled, and so
+-- many; so many findings were told; and what is told behind it is on none of these entries. So what was told of them is
+-- all that is told of them.
+pub record IsTrue (t : TraceValue) (before behind : List Finding) (h : Heartbeat) : Type 0 where
+  pub through : IsThrough t h.line h.entries
+  pub findings : h.findings ≡ length before
+  pub silent : All (λ f. h.line < f.line) behind
+
+-- so is each heartbeat among some pieces, behind which the rest was told
+abbrev pub AreTrue : TraceValue → List Piece → List Finding → Type 0
+AreTrue t pieces rest = (earlier later : List Piece) (p : Piece) (h : Heartbeat) → pieces ≡ earlier ++ p ∷ later
+    → p.heartbeat ≡ Some h → IsTrue t (told_in earlier ++ p.told) (told_in later ++ rest) h
