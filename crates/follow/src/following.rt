@@ -1,7 +1,8 @@
 //! A log that is followed as it comes.
 
-ghost use Rattle.std.specs.Prelude.{◌≡◌, [], ◌∷◌, List, Option, IfErr};
+ghost use Rattle.std.specs.Prelude.{◌≡◌, [], ◌∷◌, List, Option, IfErr, OnOk};
 ghost use Rattle.trace_lines.specs.Placed.{AreInPlace};
+ghost use Rattle.userset_index.specs.Growth.{IsGrowing};
 ghost use Rattle.evidence_check.specs.Steps.{StepValue};
 ghost use Rattle.findings.specs.Findings.{findings_of};
 ghost use Rattle.findings.specs.Headline.{IsRightAndFresh};
@@ -20,40 +21,49 @@ use devices::{Sink, Source};
 use findings::laws::right_and_fresh_without_findings;
 use json_lines::LineReader;
 use std::alloc::Global;
+use std::mem::replace;
 use trace_lines::TraceBuilder;
 use trace_lines::laws::stand_in_order;
+use userset_index::UsersetIndex;
 
 /// Writes what the log so far lets tell, of which the last line is given where a heartbeat is asked for.
 fn tell<W: Sink>(
     log: TraceBuilder,
+    usersets: &mut UsersetIndex,
     line: Option<u64>,
     follower: &mut Follower,
     out: &mut W,
 ) -> Result<TraceBuilder, AuditFault>
-    requires { AreInPlace log → IsFollowed log follower.old }
-    ensures { Told (λ text l. (l ≡ log) × TellsPiece log line follower.old follower.new text)
+    requires followed { AreInPlace log → IsFollowed log follower.old }
+    requires indexed { IsGrowing log.declarations log.commits usersets.old }
+    ensures indexed { OnOk result (IsGrowing log.declarations log.commits usersets.new) }
+    ensures told { Told (λ text l. (l ≡ log) × TellsPiece log line follower.old follower.new text)
         (writes W.taken W.flushes W.failures W.idle W.contents out.old out.new) result }
 {
-    let paused = log.pause();
+    let paused = log.pause(replace(usersets, UsersetIndex::new(follower.alloc)));
     stand_in_order(paused.trace());
     let text = follower.tell(paused.trace(), line)?;
-    audit::tell(text.as_str(), paused.resume(), out)
+    let (log, grown) = paused.resume();
+    *usersets = grown;
+    audit::tell(text.as_str(), log, out)
 }
 
 /// Writes what is left at the end of the log, and the last lines.
 fn tell_end<W: Sink>(
     log: TraceBuilder,
+    usersets: UsersetIndex,
     follower: &mut Follower,
     out: &mut W,
 ) -> Result<Verdict, AuditFault>
     requires followed { IsFollowed log follower.old }
     requires all { IsAtEnd log follower.old.monitor }
+    requires indexed { IsGrowing log.declarations log.commits usersets }
     ensures told { Told (λ text v. TellsRest log follower.old follower.new text × (v ≡ verdict_of follower.new.told.items))
         (writes W.taken W.flushes W.failures W.idle W.contents out.old out.new) result }
     // Where nothing was found, whoever made the evidence.
     ensures right { (evidence : List (Option (List StepValue))) → findings_of log evidence ≡ [] → IsRightAndFresh log }
 {
-    let paused = log.pause();
+    let paused = log.pause(usersets);
     right_and_fresh_without_findings(paused.trace());
     let text = follower.tell_end(paused.trace())?;
     drop(paused);
@@ -83,15 +93,16 @@ pub fn follow<A: Source, W: Sink>(
 {
     let mut lines = LineReader::new(alloc)?;
     let mut log = TraceBuilder::new(alloc);
+    let mut usersets = log.usersets();
     let mut follower = Follower::new(alloc);
     // bounded by the room for an input, of which each line takes some
     while take_line(&mut lines, trace, &mut log)? {
         if !lines.holds_line() {
             let line = heartbeats.then_some(lines.number - 1);
-            log = tell(log, line, &mut follower, out)?;
+            log = tell(log, &mut usersets, line, &mut follower, out)?;
         }
     }
     // the last lines of the report say more than a heartbeat
-    let log = tell(log, None, &mut follower, out)?;
-    tell_end(log, &mut follower, out)
+    let log = tell(log, &mut usersets, None, &mut follower, out)?;
+    tell_end(log, usersets, &mut follower, out)
 }

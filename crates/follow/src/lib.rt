@@ -9,7 +9,8 @@
 //! Callers may rely on this: what was told as the lines came, and what is told at the end, is together what is found on
 //! the trace, each finding once; a clean verdict is that of an audit. Under any fault what went out before is told of
 //! the lines that had come (`IsToldOf`), and so stands among the findings on each longer log
-//! (`follow_laws::laws::told_is_true`). Up to the line that a heartbeat names all entries are settled (`IsThrough`).
+//! (`follow_laws::laws::told_is_true`). A heartbeat is true of the lines that had come and of each longer log: up to its
+//! line all entries are settled, and of none of them anything is told behind it (`specs/Heartbeats.antt`).
 //!
 //! ```text
 //! let verdict = follow(alloc, &mut trace, &mut out, true)?;

@@ -1,6 +1,6 @@
 //! Traces that are read, line by line.
 
-ghost use Rattle.std.specs.Prelude.{◌≡◌, ◌+◌, ◌≤◌, Some, None, [], length, take, true, ◌++◌, option_map, option_and_then, Ok, OnOk, OnErr};
+ghost use Rattle.std.specs.Prelude.{◌≡◌, ◌+◌, ◌≤◌, Some, None, [], length, take, true, false, ◌++◌, option_map, option_and_then, Ok, OnOk, OnErr};
 ghost use Rattle.std.specs.Option.{ForSome};
 ghost use Rattle.serde_json.specs.View.{view};
 ghost use Rattle.tuple_text.specs.Refs.{set_value};
@@ -20,6 +20,7 @@ ghost use Rattle.strata.specs.Edges.{first_broken, edges_of_tuples};
 ghost use Rattle.edge_checks.specs.Sampled.{Represents};
 ghost use Rattle.trace_lines.specs.Declaring.{rules_changed};
 ghost use Rattle.namespaces.specs.Changing.{IsLater};
+ghost use Rattle.userset_index.specs.Growth.{IsGrowing};
 ghost use Rattle.userset_index.specs.Index.{IsUsersetIndex};
 
 use crate::cause::Cause;
@@ -110,7 +111,8 @@ impl Drop for TraceBuilder {
 /// An index of the usersets that are stored in others. Where memory is refused there is none, and whoever asks walks
 /// over all usersets.
 fn usersets_of(alloc: Global, chains: &Chains, rules: &Rules) -> UsersetIndex
-    ensures { IsUsersetIndex rules.now chains.now.commits result }
+    ensures index { IsUsersetIndex rules.now chains.now.commits result }
+    ensures growing { result.is_growing ≡ false }
 {
     match UsersetIndex::of(alloc, chains, rules) {
         Ok(usersets) => usersets,
@@ -192,8 +194,16 @@ impl TraceBuilder {
         }
     }
 
-    /// The trace of these lines, to which more may come.
-    pub fn pause(self) -> PausedTrace
+    /// An index of its usersets that grows with it, or none.
+    pub fn usersets(&self) -> UsersetIndex
+        ensures { IsGrowing self.now.declarations self.now.commits result }
+    {
+        UsersetIndex::growing(self.alloc, &self.rules)
+    }
+
+    /// The trace of these lines, to which more may come. The index of these lines or of the first of them grows.
+    pub fn pause(self, mut usersets: UsersetIndex) -> PausedTrace
+        requires { IsGrowing self.declarations self.commits usersets }
         ensures { result ≡ self }
     {
         let TraceBuilder {
@@ -206,12 +216,13 @@ impl TraceBuilder {
             recorded,
             versions,
         } = self;
+        usersets.grow(alloc, &chains, &rules);
         PausedTrace {
             alloc,
             trace: Trace {
                 rules,
                 chains,
-                usersets: UsersetIndex::new(alloc),
+                usersets,
                 commit_lines,
                 recorded,
             },

@@ -1,6 +1,7 @@
 //! A trace of the lines so far, to which more may come.
 
 ghost use Rattle.std.specs.Prelude.{◌≡◌};
+ghost use Rattle.userset_index.specs.Growth.{IsGrowing};
 
 use crate::builder::TraceBuilder;
 use crate::trace::Trace;
@@ -8,9 +9,10 @@ use crate::versions::Versions;
 use edge_checks::{EdgeIndex, Sample};
 use std::alloc::Global;
 use std::marker::Model;
+use userset_index::UsersetIndex;
 
-/// The trace of the lines so far, with what it takes to read further ones. It has no index of usersets, so whoever
-/// asks walks over all that were ever stored in one.
+/// The trace of the lines so far, with what it takes to read further ones, and an index of its usersets that grows with
+/// it.
 pub struct PausedTrace {
     pub(crate) alloc: Global,
     pub(crate) trace: Trace,
@@ -64,9 +66,10 @@ impl PausedTrace {
         &self.trace
     }
 
-    /// To read further lines.
-    pub fn resume(self) -> TraceBuilder
-        ensures { result ≡ self }
+    /// To read further lines, and the index, with which it may be paused again.
+    pub fn resume(self) -> (TraceBuilder, UsersetIndex)
+        ensures log { result.0 ≡ self }
+        ensures usersets { IsGrowing self.declarations self.commits result.1 }
     {
         let PausedTrace {
             alloc,
@@ -75,8 +78,8 @@ impl PausedTrace {
             index,
             versions,
         } = self;
-        let (rules, chains, commit_lines, recorded) = trace.into_parts();
-        TraceBuilder {
+        let (rules, chains, commit_lines, recorded, usersets) = trace.into_parts();
+        let log = TraceBuilder {
             alloc,
             rules,
             chains,
@@ -85,6 +88,7 @@ impl PausedTrace {
             commit_lines,
             recorded,
             versions,
-        }
+        };
+        (log, usersets)
     }
 }

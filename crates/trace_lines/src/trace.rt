@@ -11,6 +11,7 @@ ghost use Rattle.trace_lines.specs.Kept.{IsKept, IsPlaced};
 ghost use Rattle.trace_lines.specs.Recorded.{contents, shown};
 ghost use Rattle.trace_lines.specs.Values.{entry_lines};
 ghost use Rattle.trace_lines.specs.Versions.{content_of, AreIssuedOnce};
+ghost use Rattle.userset_index.specs.Growth.{IsGrowing};
 
 use crate::entries::Entries;
 use crate::entry::Entry;
@@ -45,6 +46,7 @@ impl Model for Trace {
     ghost use Rattle.trace_lines.specs.Kept.{IsKept};
     ghost use Rattle.trace_lines.specs.Recorded.{shown, contents};
     ghost use Rattle.trace_lines.specs.Versions.{AreIssuedOnce};
+    ghost use Rattle.userset_index.specs.Growth.{IsGrowing};
     ghost use Rattle.userset_index.specs.Index.{IsUsersetIndex};
 
     ghost view = { λ t. record {
@@ -57,7 +59,8 @@ impl Model for Trace {
     ghost invariant = { λ t. IsKept t.chains.commits t.commit_lines.items (shown t.recorded) (contents t.recorded)
         × AreIssuedOnce (shown t.recorded)
         × ((at : ℕ) → HasValidStrata (rule_at t.rules at) (store_at t.chains.commits at))
-        × IsUsersetIndex t.rules t.chains.commits t.usersets × (t.chains.limit ≡ 2 ^ 32 - 1) };
+        × IsUsersetIndex t.rules t.chains.commits t.usersets × (t.chains.limit ≡ 2 ^ 32 - 1)
+        × IsGrowing t.rules t.chains.commits t.usersets };
 }
 
 // Written out, since one that is derived is a part of each function that lets a trace go, with all its parts.
@@ -144,13 +147,14 @@ impl Trace {
         &self.recorded
     }
 
-    /// What it was made of, but for the index.
-    pub(crate) fn into_parts(self) -> (Rules, Chains, Vec<u64>, Entries)
+    /// What it was made of.
+    pub(crate) fn into_parts(self) -> (Rules, Chains, Vec<u64>, Entries, UsersetIndex)
         ensures rules { result.0 ≡ self.declarations }
         ensures chains { result.1 ≡ record { commits = self.commits; limit = 2 ^ 32 - 1 } }
         ensures lines { result.2.items ≡ self.commit_lines }
         ensures entries { shown result.3 ≡ self.entries }
         ensures kept { IsKept self.commits self.commit_lines self.entries (contents result.3) }
+        ensures usersets { IsGrowing self.declarations self.commits result.4 }
     {
         let Trace {
             rules,
@@ -159,8 +163,7 @@ impl Trace {
             commit_lines,
             recorded,
         } = self;
-        drop(usersets);
-        (rules, chains, commit_lines, recorded)
+        (rules, chains, commit_lines, recorded, usersets)
     }
 
     /// The line of commit `k`.

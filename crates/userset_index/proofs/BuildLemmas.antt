@@ -130,7 +130,7 @@ pub found_more : (lives more : List Life) (mark at i : ℕ) → ((l : Life) → 
 found_more lives more mark at i kept f = record
     { life = f.life; there = kept f.life f.there; marked = f.marked; of = f.of; alive = f.alive }
 
-found_here : (lives : List Life) (o : Option Life) (mark at i : ℕ) → (l : Life) × (o ≡ Some l) × (l.mark ≡ mark) × (l.touch ≡ i) × (is_alive at l ≡ true)
+pub found_here : (lives : List Life) (o : Option Life) (mark at i : ℕ) → (l : Life) × (o ≡ Some l) × (l.mark ≡ mark) × (l.touch ≡ i) × (is_alive at l ≡ true)
     → IsFound (kept lives o) mark at i
 found_here lives o mark at i w =
     record { life = w.0; there = kept_here lives o w.0 w.1; marked = w.2; of = w.3; alive = w.4 }

@@ -14,7 +14,7 @@ use Rattle.userset_index.specs.Building.{AreLastAmong, AreRising, IsEnd}
 use Rattle.userset_index.specs.Index.{IsLastTouch}
 
 -- the last place is no earlier than any
-reaches : {X : Type 0} (p : X → Bool) (xs : List X) (n j : ℕ) (x : X) → j < n → slice_get xs j ≡ Some x → p x ≡ true → suc j ≤ last_place p xs n
+pub reaches : {X : Type 0} (p : X → Bool) (xs : List X) (n j : ℕ) (x : X) → j < n → slice_get xs j ≡ Some x → p x ≡ true → suc j ≤ last_place p xs n
 reaches p xs zero j x less here holds = absurd (omega (arith, less))
 reaches {X} p xs (suc n) j x less here holds = by_place (eq-or-lt_of_le (let near : j ≤ n = omega (arith, less) in near)) (λ before. reaches p xs n j x before here holds)
   where

@@ -1,7 +1,9 @@
 pub mod BuildLemmas
 pub mod CallerLemmas
 pub mod EndLemmas
+pub mod EndedLemmas
 pub mod ExactLemmas
+pub mod GrowthLemmas
 pub mod MomentLemmas
 pub mod NumberLemmas
 pub mod ObjectLemmas

@@ -30,6 +30,12 @@ pub record IndexValue : Type 0 where
   pub is_timed : Bool
   pub moments : List Life
   pub numbers : List Numbers
+  -- whether it grows with a log; and of how many declarations it is then, and where the lives of each touch stand
+  pub is_growing : Bool
+  pub declared : ℕ
+  pub own_places : List ℕ
+  pub through_places : List ℕ
+  pub object_places : List ℕ
 
 -- at how many touches a userset is no longer passed over one by one
 abbrev pub few : ℕ

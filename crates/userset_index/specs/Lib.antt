@@ -1,4 +1,5 @@
 pub mod Building
+pub mod Growth
 pub mod Index
 pub mod Lives
 pub mod Moments

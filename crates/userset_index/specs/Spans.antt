@@ -38,6 +38,12 @@ pub record AreGrown (links : List ℕ) (spans : List Span) : Type 0 where
   pub linked : links ≡ marks_of (lives_of spans)
   pub bounded : AreBounded spans
 
+-- the lives over which the jump of the span at an index passes end at this timestamp at the latest
+abbrev pub Bounds : List Span → ℕ → ℕ → Type 0
+Bounds spans i last =
+    (s : Span) (k : ℕ) (l : Life) → slice_get spans i ≡ Some s → s.jump ≤ k → k ≤ i → slice_get (lives_of spans) k ≡ Some l
+    → l.mark ≡ s.mark → l.until ≤ last
+
 abbrev pub found_first : Option ℕ → List ℕ → List ℕ
 found_first None rest = rest
 found_first (Some touch) rest = touch ∷ rest

@@ -24,7 +24,7 @@ use version_chains::{Chains, TouchRef};
 const FEW: u8 = 16;
 
 /// How many counts there are: one for each beginning of 16 bits of a mark.
-const COUNTS: usize = 1 << 16;
+pub(crate) const COUNTS: usize = 1 << 16;
 
 /// Which count is that of a userset with this mark.
 fn count_of(mark: u64) -> usize
@@ -66,7 +66,7 @@ fn mark_at(chains: &Chains, index: usize) -> Option<u64>
 }
 
 /// The same of a touch that is at hand.
-fn mark_of(touch: TouchRef<'_>) -> Option<u64>
+pub(crate) fn mark_of(touch: TouchRef<'_>) -> Option<u64>
     ensures { (g : SetValue) → (touch_value touch.entry).tuple.user ≡ Set g
         → result ≡ Some (set_mark (touch_value touch.entry).tuple.set) }
 {
@@ -116,7 +116,7 @@ pub(crate) fn set_marks(
 }
 
 /// A later touch of a tuple has a later timestamp: no commit touches a tuple twice. It computes nothing.
-fn touches_rise(chains: &Chains)
+pub(crate) fn touches_rise(chains: &Chains)
     ensures { AreRising (changelog chains.now.commits) }
 {
     let _ = chains.commits();
@@ -191,7 +191,7 @@ fn key_of(way: Way, rules: &Rules, mark: u64, user: SetRef<'_>) -> Option<(u64, 
 
 /// The life of a touch that may be the last of its tuple up to the timestamp `end`, where its userset has this mark.
 /// `None` where it can never matter.
-fn life_of(
+pub(crate) fn life_of(
     way: Way,
     rules: &Rules,
     mark: u64,

@@ -13,6 +13,7 @@ ghost use Rattle.userset_index.specs.Lives.{touches_alive};
 use crate::build::{
     Crowds, count_crowds, ends_of, is_any_crowded, is_crowded, lives_of, object_mark, set_marks,
 };
+use crate::growth::Growth;
 use crate::life::{Life, Way};
 use crate::moments::Times;
 use crate::numbers::Numbers;
@@ -29,12 +30,13 @@ use version_chains::Chains;
 /// userset is not crowded, and to pass over what is stored in it takes no index.
 #[derive(Drop)]
 pub struct UsersetIndex {
-    is_whole: bool,
-    crowds: Vec<u8>,
-    own: Spans,
-    through: Spans,
-    objects: Spans,
-    times: Times,
+    pub(crate) is_whole: bool,
+    pub(crate) crowds: Vec<u8>,
+    pub(crate) own: Spans,
+    pub(crate) through: Spans,
+    pub(crate) objects: Spans,
+    pub(crate) times: Times,
+    pub(crate) growth: Growth,
 }
 
 impl Model for UsersetIndex {
@@ -51,6 +53,11 @@ impl Model for UsersetIndex {
       is_timed = x.times.is_whole;
       moments = x.times.moments;
       numbers = x.times.numbers.items;
+      is_growing = x.growth.is_growing;
+      declared = x.growth.declared;
+      own_places = x.growth.own.items;
+      through_places = x.growth.through.items;
+      object_places = x.growth.objects.items;
     } };
 }
 
@@ -134,7 +141,8 @@ fn lists_of(
 impl UsersetIndex {
     /// No index, in which nothing is crowded.
     pub fn new(alloc: Global) -> UsersetIndex
-        ensures { result.is_whole ≡ false }
+        ensures whole { result.is_whole ≡ false }
+        ensures growing { result.is_growing ≡ false }
     {
         UsersetIndex {
             is_whole: false,
@@ -143,6 +151,7 @@ impl UsersetIndex {
             through: Spans::new(alloc),
             objects: Spans::new(alloc),
             times: Times::new(alloc),
+            growth: Growth::new(alloc, false, 0),
         }
     }
 
@@ -153,7 +162,8 @@ impl UsersetIndex {
     /// crowded and more than 16 namespaces are declared, it takes some 100 bytes more for each touch that adds a
     /// userset, and for each that ends one.
     pub fn of(alloc: Global, chains: &Chains, rules: &Rules) -> Result<UsersetIndex, AllocError>
-        ensures { IfOk result (λ index. IsUsersetIndex rules.now chains.now.commits index) }
+        ensures index { IfOk result (λ index. IsUsersetIndex rules.now chains.now.commits index) }
+        ensures growing { IfOk result (λ index. index.is_growing ≡ false) }
     {
         let counts = count_crowds(alloc, chains)?;
         if is_any_crowded(&counts) {
@@ -167,6 +177,7 @@ impl UsersetIndex {
             through: Spans::new(alloc),
             objects: Spans::new(alloc),
             times,
+            growth: Growth::new(alloc, false, 0),
         })
     }
 
@@ -177,7 +188,8 @@ impl UsersetIndex {
         rules: &Rules,
         counts: Vec<u8>,
     ) -> Result<UsersetIndex, AllocError>
-        ensures { IfOk result (λ index. IsUsersetIndex rules.now chains.now.commits index) }
+        ensures index { IfOk result (λ index. IsUsersetIndex rules.now chains.now.commits index) }
+        ensures growing { IfOk result (λ index. index.is_growing ≡ false) }
     {
         let ends = ends_of(alloc, chains)?;
         let times = Times::of(alloc, chains, rules, &ends)?;
@@ -192,6 +204,7 @@ impl UsersetIndex {
             through,
             objects,
             times,
+            growth: Growth::new(alloc, false, 0),
         })
     }
 

@@ -15,6 +15,9 @@
 //! Of any userset it says of which namespaces usersets are stored there, and maybe of others
 //! ([`UsersetIndex::namespaces`]), in a trace in which many may be asked for.
 //!
+//! An index is made of a whole store ([`UsersetIndex::of`]), or grows with a log ([`UsersetIndex::grow`]): then each
+//! touch is taken once, and ends the lives of the touch before it of the same tuple (`specs/Growth.antt`).
+//!
 //! ```text
 //! let index = UsersetIndex::of(alloc, &chains, &rules)?;
 //! for touch in index.own(set, at) { .. chains.touch(touch) .. }
@@ -22,6 +25,7 @@
 #![tactic(auto)]
 
 mod build;
+mod growth;
 mod index;
 mod life;
 mod moments;

@@ -114,7 +114,7 @@ fn thinned(alloc: Global, chains: &Chains, lives: &[Life]) -> Result<Vec<Life>, 
 }
 
 /// A life, to be looked for through a userset by the number of a namespace. `None` where nobody declares that.
-fn numbered(chains: &Chains, rules: &Rules, life: Life) -> Option<Life>
+pub(crate) fn numbered(chains: &Chains, rules: &Rules, life: Life) -> Option<Life>
     ensures numbered { IsNumbered rules.now (changelog chains.now.commits) life result }
     ensures same { IfSome result (IsSameLife life) }
 {

@@ -1,10 +1,10 @@
 //! Lives, found by their mark and a timestamp.
 
-ghost use Rattle.std.specs.Prelude.{◌≡◌, ◌≤◌, ◌∷◌, ◌++◌, [], Some, length, slice_get, nat_eq, IfOk, IfSome, OnOk};
+ghost use Rattle.std.specs.Prelude.{◌≡◌, ◌≤◌, ◌∷◌, ◌++◌, [], Some, length, slice_get, nat_eq, IfOk, IfSome, OnErr, OnOk};
 ghost use Rattle.std.specs.Iterator.{YieldsFirstBy, item_count};
 ghost use Rattle.marks.specs.Placed.{last_place, most};
-ghost use Rattle.userset_index.specs.Lives.{touches_alive, is_alive};
-ghost use Rattle.userset_index.specs.Spans.{AreBounded, AreGrown, IsBounded, IsPlaceOf, IsSpanAt, Steps, life_of, lives_of, marks_of};
+ghost use Rattle.userset_index.specs.Lives.{ended, is_alive, touches_alive};
+ghost use Rattle.userset_index.specs.Spans.{AreBounded, AreGrown, Bounds, IsBounded, IsPlaceOf, IsSpanAt, Steps, life_of, lives_of, marks_of};
 
 use crate::life::Life;
 use marks::{MOST_PLACES, Places};
@@ -27,12 +27,21 @@ pub(crate) struct Span {
     pub(crate) jump: u32,
 }
 
+/// The rank of a life's jump, and the index of the life whose jump passes over the stretch of this one too, 0 where
+/// there is none yet. No answer rests on them.
+#[derive(Clone, Copy, Drop)]
+struct Joint {
+    rank: u8,
+    above: u32,
+}
+
 /// Lives in the order in which they were added. From each a link leads to the one before it with the same mark. A
 /// contract sees the list of lives.
 #[derive(Drop)]
 pub(crate) struct Spans {
     links: Places,
     spans: Vec<Span>,
+    joints: Vec<Joint>,
 }
 
 impl Model for Spans {
@@ -67,19 +76,40 @@ fn at_place(spans: &[Span], place: u32) -> Option<&Span>
 }
 
 /// The rank of the jump of the span at a place; 0 where there is none. Jumps of one rank pass over equally many lives.
-fn rank_at(ranks: &[u8], place: u32) -> u8 {
+fn rank_at(joints: &[Joint], place: u32) -> u8 {
     if place == 0 {
         return 0;
     }
-    ranks.get((place - 1) as usize).copied().unwrap_or(0)
+    match joints.get((place - 1) as usize) {
+        Some(joint) => joint.rank,
+        None => 0,
+    }
+}
+
+/// The index of the life whose jump passes over the stretch of the one at an index too, or 0.
+fn above(joints: &[Joint], index: usize) -> usize {
+    match joints.get(index) {
+        Some(joint) => joint.above as usize,
+        None => 0,
+    }
+}
+
+/// Notes the index of that life for the one at a place.
+fn set_above(joints: &mut Vec<Joint>, place: u32, above: u32) {
+    if place == 0 {
+        return;
+    }
+    if let Some(joint) = joints.get_mut((place - 1) as usize) {
+        joint.above = above;
+    }
 }
 
 /// The span that stands where a jump of this one, which stands at a place, leads, if a jump from there is as long.
-fn far_behind<'a>(spans: &'a [Span], ranks: &[u8], place: u32, near: &Span) -> Option<&'a Span>
+fn far_behind<'a>(spans: &'a [Span], joints: &[Joint], place: u32, near: &Span) -> Option<&'a Span>
     ensures { IfSome result (λ s. IsSpanAt spans.now near.now.jump s.now) }
 {
     let far = at_place(spans, near.jump)?;
-    if rank_at(ranks, place) == rank_at(ranks, near.jump) {
+    if rank_at(joints, place) == rank_at(joints, near.jump) {
         Some(far)
     } else {
         None
@@ -88,7 +118,7 @@ fn far_behind<'a>(spans: &'a [Span], ranks: &[u8], place: u32, near: &Span) -> O
 
 /// The span of a life that goes behind the others, where the one before it with the same mark stands at the place
 /// `older`, and the rank of its jump.
-fn span_behind(spans: &[Span], ranks: &[u8], older: u32, life: Life) -> (Span, u8)
+fn span_behind(spans: &[Span], joints: &[Joint], older: u32, life: Life) -> (Span, u8)
     requires bounded { AreBounded spans.now }
     requires older { older ≡ last_place (nat_eq life.mark) (marks_of (lives_of spans.now)) (length spans.now) }
     requires touch { life.touch ≤ most }
@@ -107,7 +137,7 @@ fn span_behind(spans: &[Span], ranks: &[u8], older: u32, life: Life) -> (Span, u
     let Some(near) = at_place(spans, older) else {
         return (alone, 1);
     };
-    let Some(far) = far_behind(spans, ranks, older, near) else {
+    let Some(far) = far_behind(spans, joints, older, near) else {
         return (alone, 1);
     };
     let joined = Span {
@@ -116,43 +146,92 @@ fn span_behind(spans: &[Span], ranks: &[u8], older: u32, life: Life) -> (Span, u
         jump: far.jump,
         ..alone
     };
-    (joined, rank_at(ranks, older).saturating_add(1))
+    (joined, rank_at(joints, older).saturating_add(1))
 }
 
-/// Spans while they are added to, with the ranks of their jumps, which are needed only then.
-#[derive(Drop)]
-struct Growing {
-    links: Places,
-    spans: Vec<Span>,
-    ranks: Vec<u8>,
-}
-
-impl Growing {
-    fn with_room(alloc: Global, room: usize) -> Result<Growing, AllocError>
-        ensures grown { IfOk result (λ g. AreGrown g.links g.spans.items) }
-        ensures empty { IfOk result (λ g. g.spans.items ≡ []) }
-    {
-        Ok(Growing {
-            links: Places::with_room(alloc, room)?,
-            spans: Vec::with_capacity(alloc, room)?,
-            ranks: Vec::with_capacity(alloc, room)?,
-        })
+/// Notes that the jump of the last life passes over the stretch of the one at a place, and of that to which this one
+/// jumps, where it has such a rank.
+fn join(spans: &[Span], joints: &mut Vec<Joint>, older: u32, rank: u8) {
+    let last = joints.len().saturating_sub(1);
+    if rank <= 1 || last > MOST_PLACES {
+        return;
     }
+    let last = last as u32;
+    set_above(joints, older, last);
+    if let Some(near) = at_place(spans, older) {
+        set_above(joints, near.jump, last);
+    }
+}
 
-    fn push(&mut self, life: Life) -> Result<(), AllocError>
-        requires { AreGrown self.old.links self.old.spans.items }
-        ensures grown { OnOk result (AreGrown self.new.links self.new.spans.items) }
-        ensures lives { OnOk result (lives_of self.new.spans.items ≡ lives_of self.old.spans.items ++ life ∷ []) }
-    {
-        let older = self.links.newest(life.mark);
-        if older > MOST_PLACES || life.touch > MOST_PLACES {
-            return Err(AllocError);
+/// The life at an index ends at a timestamp at the latest; what bounds it stays.
+fn shorten(spans: &mut Vec<Span>, index: usize, until: u64)
+    ensures lives { lives_of spans.new.items ≡ ended index until (lives_of spans.old.items) }
+    ensures bounded { AreBounded spans.old.items → AreBounded spans.new.items }
+{
+    if index < spans.len() {
+        let span = spans[index];
+        spans[index] = Span {
+            until: span.until.min(until),
+            ..span
+        };
+    }
+}
+
+/// A bound for the last timestamps of the lives over which the jump of the span at an index passes, by what bounds those
+/// of its two parts. `None` where it has no such parts.
+fn bound_of(links: &Places, spans: &[Span], index: usize) -> Option<u64>
+    requires { AreGrown links.now spans.now }
+    ensures { IfSome result (Bounds spans.now index) }
+{
+    let span = spans.get(index)?;
+    let older = links.older(index);
+    if span.jump as usize == older {
+        return Some(span.until);
+    }
+    if older == 0 {
+        return None;
+    }
+    let near = spans.get(older - 1)?;
+    let far = at_place(spans, near.jump)?;
+    if far.jump == span.jump {
+        Some(span.until.max(near.last).max(far.last))
+    } else {
+        None
+    }
+}
+
+/// Bounds the last timestamps of these lives by no more than is needed. Whether they were bounded by more.
+fn tighten(links: &Places, spans: &mut Vec<Span>, index: usize) -> bool
+    requires { AreGrown links.now spans.old.items }
+    ensures grown { AreGrown links.now spans.new.items }
+    ensures lives { lives_of spans.new.items ≡ lives_of spans.old.items }
+{
+    let Some(last) = bound_of(links, spans, index) else {
+        return false;
+    };
+    if index >= spans.len() || spans[index].last <= last {
+        return false;
+    }
+    let span = spans[index];
+    spans[index] = Span { last, ..span };
+    true
+}
+
+/// The life at an index ends at a timestamp at the latest, and what bounds it is as tight as before.
+fn end_at(links: &Places, spans: &mut Vec<Span>, joints: &[Joint], index: usize, until: u64)
+    requires { AreGrown links.now spans.old.items }
+    ensures grown { AreGrown links.now spans.new.items }
+    ensures lives { lives_of spans.new.items ≡ ended index until (lives_of spans.old.items) }
+{
+    shorten(spans, index, until);
+    let mut at = index;
+    // a stretch is at least twice as long as its parts
+    while tighten(links, spans, at) {
+        let place = above(joints, at);
+        if place <= at {
+            return;
         }
-        let (span, rank) = span_behind(&self.spans, &self.ranks, older as u32, life);
-        self.links.push(life.mark)?;
-        self.spans.push(span)?;
-        self.ranks.push(rank)?;
-        Ok(())
+        at = place;
     }
 }
 
@@ -171,6 +250,7 @@ impl Spans {
         Spans {
             links: Places::new(alloc),
             spans: Vec::new(alloc),
+            joints: Vec::new(alloc),
         }
     }
 
@@ -178,14 +258,48 @@ impl Spans {
     pub(crate) fn of(alloc: Global, lives: &[Life]) -> Result<Spans, AllocError>
         ensures { IfOk result (λ spans. spans ≡ lives.now) }
     {
-        let mut growing = Growing::with_room(alloc, lives.len())?;
+        let mut spans = Spans {
+            links: Places::with_room(alloc, lives.len())?,
+            spans: Vec::with_capacity(alloc, lives.len())?,
+            joints: Vec::with_capacity(alloc, lives.len())?,
+        };
         for life in lives {
-            growing.push(*life)?;
+            spans.push(*life)?;
         }
-        Ok(Spans {
-            links: growing.links,
-            spans: growing.spans,
-        })
+        Ok(spans)
+    }
+
+    /// How many lives there are.
+    pub(crate) fn len(&self) -> usize
+        ensures { result ≡ length self.now }
+    {
+        self.spans.len()
+    }
+
+    /// Puts a life last. Where memory runs out, nothing changes.
+    pub(crate) fn push(&mut self, life: Life) -> Result<(), AllocError>
+        ensures ok { OnOk result (self.new ≡ self.old ++ life ∷ []) }
+        ensures err { OnErr result (self.new ≡ self.old) }
+    {
+        let older = self.links.newest(life.mark);
+        if older > MOST_PLACES || life.touch > MOST_PLACES {
+            return Err(AllocError);
+        }
+        self.spans.reserve(1)?;
+        self.joints.reserve(1)?;
+        let (span, rank) = span_behind(&self.spans, &self.joints, older as u32, life);
+        self.links.push(life.mark)?;
+        self.joints.push_reserved(Joint { rank, above: 0 });
+        join(&self.spans, &mut self.joints, older as u32, rank);
+        self.spans.push_reserved(span);
+        Ok(())
+    }
+
+    /// The life at an index ends at a timestamp at the latest. It takes steps in the logarithm of the lives.
+    pub(crate) fn end(&mut self, index: usize, until: u64)
+        ensures { self.new ≡ ended index until self.old }
+    {
+        end_at(&self.links, &mut self.spans, &self.joints, index, until);
     }
 
     /// The step of a walk from the life at this index, which looks for those that hold the timestamp.

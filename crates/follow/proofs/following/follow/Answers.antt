@@ -10,7 +10,9 @@ use Rattle.audit.specs.declared.plain.AuditFault.TheVariants as faults
 use Rattle.audit.proofs.KindLemmas.{handed_on, kinds-more}
 use Rattle.audit.proofs.Readers.{behind_at_rest, few_at_rest, next_at_rest}
 use Rattle.follow.specs.Following.{Followed}
+use Rattle.userset_index.specs.Growth.{IsGrowing}
 use Rattle.follow.proofs.GrownLemmas.{first_lines, said_lines}
+use Rattle.follow.proofs.IndexLemmas.{IsIndexSoFar, index_first, index_line, index_now, index_told}
 use Rattle.follow.proofs.RunLemmas.{IsRunSoFar, IsTextOf, came_since, ended, fine_so_far, fine_whole, followed_now, held_on, never_failed, no_lines, nothing_at_all, nothing_went, refused, run_first, run_line, run_told, stopped, tell_stopped, text_whole, used_grows, whole_lines}
 use Rattle.follow.proofs.following.follow.Goals as goal
 
@@ -35,6 +37,8 @@ loop-follower-init g c =
         first.0,
         subst (λ (used : List ℕ). IsRunSoFar used start start c.new-follower.result) (sym first.1)
             (run_first c.new-follower.result start c.new-follower.ensures.told c.new-follower.ensures.followed),
+        subst (λ (used : List ℕ). IsIndexSoFar used c.usersets.result) (sym first.1)
+            (index_first c.new-log.result c.usersets.result c.new-log.ensures c.usersets.ensures),
       );
       next = subst (λ (t : TraceValue). next_line t ≤ c.in_ok-lines.lines.number) (sym c.new-log.ensures)
           (omega (arith, made.1));
@@ -58,8 +62,8 @@ returns-in_err-take_line-clause-followed g c =
     )
     c.loop-follower.invariant.held c.loop-follower.invariant.kept)
 
-pub tell-requires : goal.tell-requires
-tell-requires g c placed =
+pub tell-requires-clause-followed : goal.tell-requires-clause-followed
+tell-requires-clause-followed g c placed =
     let run = c.loop-follower.invariant.run in
     let further = c.in_ok-take_line.ensures.goes (ap Ok c.if-branch.true) c.args.trace.now run.0 in
     let grows =
@@ -100,7 +104,7 @@ returns-in_err-log-clause-followed g c =
     c.take_line.new.reader c.take_line.new.builder c.take_line.new.lines further
     (let one = c.loop-follower.invariant.number in omega (arith, one, (c.in_ok-take_line.ensures.next (ap Ok c.if-branch.true)).0))
     c.args.heartbeats c.then_some-line.result c.then_some-line.ensures)
-    now c.in_err-log.ensures (further.used ++ c.take_line.new.lines.lines) c.take_line.new.lines.lines
+    now c.in_err-log.ensures.told (further.used ++ c.take_line.new.lines.lines) c.take_line.new.lines.lines
     (further.gave ∙ append_assoc (g.A.Source.given c.args.trace.now) further.used c.take_line.new.lines.lines) refl)
 
 pub loop-follower-preserved : goal.loop-follower-preserved
@@ -120,6 +124,7 @@ loop-follower-preserved g c =
         further,
         run_line run.0.used further.used grows.0 (g.W.Sink.taken c.args.out.now) (g.W.Sink.taken c.loop-follower.out)
             c.loop-follower.follower grows.1 run.1,
+        index_line run.0.used further.used grows.0 c.loop-follower.usersets grows.1 run.2,
       );
       next = next.1;
       room = room.0;
@@ -146,7 +151,7 @@ loop-follower-preserved-then-not-holds_line g c =
     let said =
     said_lines g.A.Source.given g.A.Source.ends g.A.Source.failures g.A.Read.remaining c.args.trace.now c.take_line.new.reader
     c.take_line.new.builder c.take_line.new.lines further in
-    let told = c.in_ok-log.ensures in
+    let told = c.in_ok-log.ensures.told in
     let same = told.text.1.0 in
     let whole = further.whole (omega (arith, next.0, number)) in
     let before = writer g.W.Sink.taken g.W.Sink.flushes g.W.Sink.failures g.W.Sink.idle g.W.Write.contents c.args.out.now in
@@ -155,7 +160,7 @@ loop-follower-preserved-then-not-holds_line g c =
     record {
       run = subst (λ (t : TraceValue). (so_far : IsTraceSoFar g.A.Source.given g.A.Source.ends g.A.Source.failures
           g.A.Read.remaining c.args.trace.now c.take_line.new.reader t c.take_line.new.lines) × IsRunSoFar so_far.used start
-          (g.W.Sink.taken c.tell.new.out) c.tell.new.follower) (sym same) (
+          (g.W.Sink.taken c.tell.new.out) c.tell.new.follower × IsIndexSoFar so_far.used c.tell.new.usersets) (sym same) (
             further,
             run_told further.used start (g.W.Sink.taken c.loop-follower.out) c.loop-follower.follower c.tell.new.follower
                 now c.take_line.new.builder said told.text.0 c.then_some-line.result (whole_lines g.A.Source.given g.A.Source.ends g.A.Source.failures g.A.Read.remaining c.args.trace.now
@@ -163,6 +168,7 @@ loop-follower-preserved-then-not-holds_line g c =
                 (let one = c.loop-follower.invariant.number in omega (arith, one, (c.in_ok-take_line.ensures.next (ap Ok c.if-branch.true)).0))
                 c.args.heartbeats c.then_some-line.result c.then_some-line.ensures)
                 told.text.1.1 whole.0 whole.1 (g.W.Sink.taken c.tell.new.out) told.text.2,
+            index_told further.used whole.0 c.take_line.new.builder c.tell.new.usersets whole.1 said c.in_ok-log.ensures.indexed,
           );
       next = subst (λ (t : TraceValue). next_line t ≤ c.take_line.new.lines.number) (sym same) next.1;
       room = room.0;
@@ -174,8 +180,8 @@ loop-follower-preserved-then-not-holds_line g c =
 ok_same : {E : Type 0} {b : Bool} → ◌≡◌ {A = Result Bool E} (Ok b) (Ok true) → b ≡ true
 ok_same is = cc (is)
 
-pub tell-requires-2 : goal.tell-requires-2
-tell-requires-2 g c placed =
+pub tell-requires-2-clause-followed : goal.tell-requires-2-clause-followed
+tell-requires-2-clause-followed g c placed =
     let run = c.loop-follower.invariant.run in
     let known = c.take_line.ensures.known in
     let start = g.W.Sink.taken c.args.out.now in
@@ -212,7 +218,7 @@ returns-in_err-log-2-clause-followed g c =
     (writer g.W.Sink.taken g.W.Sink.flushes g.W.Sink.failures g.W.Sink.idle g.W.Write.contents c.tell-2.new.out)
     c.loop-follower.invariant.kept c.loop-follower.invariant.held _ came c.loop-follower.follower c.tell-2.new.follower
     c.take_line.new.builder (fine_whole _ c.take_line.new.builder read) read.given.1.2 None (no_lines came) now
-    c.in_err-log-2.ensures came []
+    c.in_err-log-2.ensures.told came []
     read.given.1.1 (sym (append-nil came)))
 
 pub returns-clause-followed : goal.returns-clause-followed
@@ -229,7 +235,7 @@ returns-clause-followed g c =
     ∙ came_since g.A.Source.given g.A.Source.ends g.A.Source.failures g.A.Read.remaining c.args.trace.now c.loop-follower.trace
     c.take_line.new.reader c.loop-follower.log c.loop-follower.lines run.0 known) in
     let now = run_line run.0.used came rest start (g.W.Sink.taken c.loop-follower.out) c.loop-follower.follower is run.1 in
-    let told = c.in_ok-log-2.ensures in
+    let told = c.in_ok-log-2.ensures.told in
     let same = told.text.1.0 in
     let before = writer g.W.Sink.taken g.W.Sink.flushes g.W.Sink.failures g.W.Sink.idle g.W.Write.contents c.args.out.now in
     let between = writer g.W.Sink.taken g.W.Sink.flushes g.W.Sink.failures g.W.Sink.idle g.W.Write.contents c.loop-follower.out in
@@ -250,3 +256,36 @@ pub returns-clause-kinds : goal.returns-clause-kinds
 returns-clause-kinds g c =
     kinds-more (kind.write ∷ kind.memory ∷ []) (kind.trace ∷ kind.write ∷ kind.memory ∷ []) refl c.tell_end.result
     c.tell_end.ensures.told.kinds
+
+pub tell-requires-clause-indexed : goal.tell-requires-clause-indexed
+tell-requires-clause-indexed g c =
+    let run = c.loop-follower.invariant.run in
+    let further = c.in_ok-take_line.ensures.goes (ap Ok c.if-branch.true) c.args.trace.now run.0 in
+    let grows =
+    used_grows g.A.Source.given g.A.Source.ends g.A.Source.failures g.A.Read.remaining c.args.trace.now c.loop-follower.trace
+    c.take_line.new.reader c.loop-follower.log c.take_line.new.builder c.loop-follower.lines c.take_line.new.lines run.0 further
+    (c.in_ok-take_line.ensures.next (ap Ok c.if-branch.true)).0 c.take_line.ensures.known in
+    index_now further.used c.take_line.new.builder c.loop-follower.usersets
+    (index_line run.0.used further.used grows.0 c.loop-follower.usersets grows.1 run.2)
+    (said_lines g.A.Source.given g.A.Source.ends g.A.Source.failures g.A.Read.remaining c.args.trace.now c.take_line.new.reader
+    c.take_line.new.builder c.take_line.new.lines further)
+
+pub tell-requires-2-clause-indexed : goal.tell-requires-2-clause-indexed
+tell-requires-2-clause-indexed g c =
+    let run = c.loop-follower.invariant.run in
+    let known = c.take_line.ensures.known in
+    let read =
+    c.in_ok-take_line.ensures.read (λ more. true≢false (sym (ok_same more) ∙ c.if-branch.false)) c.args.trace.now run.0 in
+    let came = read.given.1.0 in
+    let rest = c.loop-follower.lines.lines ++ known.0 in
+    let is : came ≡ run.0.used ++ rest =
+    append_cancel_left (g.A.Source.given c.args.trace.now) came (run.0.used ++ rest) (sym read.given.1.1
+    ∙ came_since g.A.Source.given g.A.Source.ends g.A.Source.failures g.A.Read.remaining c.args.trace.now c.loop-follower.trace
+    c.take_line.new.reader c.loop-follower.log c.loop-follower.lines run.0 known) in
+    index_now came c.take_line.new.builder c.loop-follower.usersets
+    (index_line run.0.used came rest c.loop-follower.usersets is run.2) read.given.1.2
+
+pub tell_end-requires-clause-indexed : goal.tell_end-requires-clause-indexed
+tell_end-requires-clause-indexed g c =
+    subst (λ (t : TraceValue). IsGrowing t.declarations t.commits c.tell-2.new.usersets) (sym c.in_ok-log-2.ensures.told.text.1.0)
+    c.in_ok-log-2.ensures.indexed

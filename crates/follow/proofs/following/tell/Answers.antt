@@ -6,14 +6,14 @@ use Rattle.audit.proofs.KindLemmas.{handed_on}
 use Rattle.follow.specs.SoFar.{TellsPiece}
 use Rattle.follow.proofs.following.tell.Goals as goal
 
-pub returns-in_err-text : goal.returns-in_err-text
-returns-in_err-text g c = handed_on (Told _ _) _ c.from_residual.ensures.1 (told_no_memory _ _)
+pub returns-in_err-text-clause-told : goal.returns-in_err-text-clause-told
+returns-in_err-text-clause-told g c = handed_on (Told _ _) _ c.from_residual.ensures.1 (told_no_memory _ _)
 
-pub returns : goal.returns
-returns g c =
+pub returns-clause-told : goal.returns-clause-told
+returns-clause-told g c =
     let same : c.trace-2.result.now ≡ c.args.log = c.trace-2.ensures ∙ c.pause-paused.ensures in
     told-map _ _ _ c.tell-2.result (λ text l says. (
-      says.1 ∙ c.resume.ensures ∙ c.pause-paused.ensures,
+      says.1 ∙ c.resume-log.ensures.log ∙ c.pause-paused.ensures,
       subst (λ (t : TraceValue). TellsPiece t c.args.line c.args.follower.now c.tell.new.self text) same
           (subst (TellsPiece c.trace-2.result.now c.args.line c.args.follower.now c.tell.new.self)
           (sym (says.0 ∙ c.as_str.ensures.value)) c.in_ok-text.ensures),

@@ -1,5 +1,3 @@
-use Rattle.std.proofs.Common.{sym, ◌∙◌}
-use Rattle.std.proofs.lemmas.Bool.{true≢false}
 use Rattle.trace_lines.specs.Recorded.{shown}
 use Rattle.trace_lines.proofs.IssuedVersions.{issued_once}
 use Rattle.trace_lines.proofs.Orderly.{valid_strata}
@@ -10,6 +8,7 @@ invariant_of-result c = (
   c.self.invariant.1,
   issued_once c.self.inside.versions (shown c.self.inside.recorded) c.self.invariant.4,
   valid_strata c.self.inside.rules c.self.inside.chains.commits c.self.inside.sample c.self.invariant.2,
-  λ whole. absurd (true≢false (sym whole ∙ c.new.ensures)),
+  c.grow.ensures.index,
   c.self.invariant.0,
+  c.grow.ensures.grows,
 )

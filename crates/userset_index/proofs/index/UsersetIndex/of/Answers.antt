@@ -7,8 +7,8 @@ use Rattle.userset_index.proofs.BuildLemmas.{holds_none, through_none}
 use Rattle.userset_index.proofs.ExactLemmas.{exact_none}
 use Rattle.userset_index.proofs.index.UsersetIndex.of.Goals as goal
 
-pub returns : goal.returns
-returns c =
+pub returns-clause-index : goal.returns-clause-index
+returns-clause-index c =
     let touches = changelog c.args.chains.now.commits in
     let none : list_any (nat_lt few) c.in_ok-counts.counts.items ≡ false =
     ap (list_any (nat_lt few)) (sym c.deref.ensures.value) ∙ sym c.is_any_crowded.ensures ∙ c.if-is_any_crowded.false in

@@ -1,8 +1,8 @@
 use Rattle.version_chains.specs.Commits.{changelog}
 use Rattle.userset_index.proofs.index.UsersetIndex.of_crowds.Goals as goal
 
-pub returns : goal.returns
-returns c =
+pub returns-clause-index : goal.returns-clause-index
+returns-clause-index c =
     let lives = c.in_ok-own.ensures c.args.rules.now (changelog c.args.chains.now.commits) _ c.in_ok-crowds.ensures in
     λ _. record {
       own = lives.own_held;
