@@ -168,13 +168,53 @@ class OpenFga(Case):
             odd = self.write(2, ["user:a"], ["user:c"])
             odd["request"][side][key] = "ignore"
             self.assertEqual(self.refused(*self.words(written, odd, stale)), ["log:2: " + self.UNSEEN])
-            self.assertEqual(self.report(written, odd, change("user:a"), self.check()), "entries 1\nfindings 0\nverdict clean\n")
+            shown = change("user:a"), change("user:b")
+            self.assertEqual(self.report(written, odd, *shown, self.check()), "entries 1\nfindings 0\nverdict clean\n")
             os.remove(self.path("trace.jsonl"))
             os.remove(self.path("ids.jsonl"))
             odd["request"][side][key] = "error"
             self.assertEqual(self.report(written, odd, self.check(at=AT % 1)), "entries 1\nfindings 0\nverdict clean\n")
             os.remove(self.path("trace.jsonl"))
             os.remove(self.path("ids.jsonl"))
+
+    def test_a_write_behind_the_changes_that_they_do_not_show(self):
+        """A reply behind it may be stale, or right by what was written; what is certainly before it is audited."""
+        shown = change("user:a", at=AT % 1), change("user:b", at=AT % 3)
+        for written in self.write(4, ["user:c"]), self.write(4, deletes=["user:a"]):
+            for later in self.check("user:c", at=AT % 5, allowed=False), self.check("user:c", at=AT % 4), self.check(
+                    at=None, snapshot_between=[1, AT % 6]), self.check(at=1, token=AT % 7):
+                before = self.check(at=2), self.check(at=AT % 3)
+                told, = self.struck(*self.words(*shown, written, *before, later))
+                self.assertTrue(told.endswith("may be behind the Write of log:3, which the changes do not show: read them once more behind it"), told)
+                self.assertEqual(self.audited(), "entries 2\nfindings 0\nverdict clean\n")
+        behind = change("user:c", at=AT % 4)
+        self.assertIn("F10 wrong reply", self.report(*shown, self.write(4, ["user:c"]), behind, self.check("user:c", at=AT % 5, allowed=False)))
+
+    def test_a_write_among_the_changes_that_they_do_not_show_is_refused(self):
+        shown = change("user:a", at=AT % 1), change("user:b", at=AT % 4)
+        told = "this Write is not among the changes, which go on behind its `time`: changes are missing; give all of them as ReadChanges answers them"
+        for written in self.write(2, ["user:c"]), self.write(3, deletes=["user:a"]), self.write(0, ["user:c"]):
+            for stale in self.check("user:c", at=AT % 5, allowed=False), self.check(at=1):
+                self.assertEqual(self.refused(*self.words(*shown, written, stale)), ["log:3: " + told])
+        again = change("user:a", at=AT % 3, operation="DELETE"), change("user:a", at=AT % 5)
+        lines = shown[0], self.write(1, ["user:a"]), self.write(5, ["user:a"]), *again
+        self.assertEqual(self.report(*lines, self.check(at=AT % 5)), "entries 1\nfindings 0\nverdict clean\n")
+        os.remove(self.path("trace.jsonl"))
+        os.remove(self.path("ids.jsonl"))
+        self.assertEqual(self.refused(*self.words(*lines[1:], self.check(at=1))), ["log:1: " + told])
+        # Each line of a call may stand twice, and what the base state has may be written before.
+        self.assertEqual(self.report(*lines, *lines[1:3], self.check(at=AT % 5)), "entries 1\nfindings 0\nverdict clean\n")
+        self.put("base.jsonl", [{"key": change("user:c")["tuple_key"]}])
+        words = ["openfga", "--model", "model.json", "--base", "base.jsonl", "--base-at", "0", "log"]
+        self.put("log", [self.write(0, ["user:c"]), *shown, self.check("user:c", at=1)])
+        self.imported(*words)
+        self.assertEqual(self.audited(), "entries 1\nfindings 0\nverdict clean\n")
+
+    def test_a_write_without_a_time_that_the_changes_do_not_show(self):
+        shown, written = change("user:a", at=AT % 3), self.write(None, deletes=["user:a"])
+        told, = self.struck(*self.words(shown, written, self.check(at=AT % 3), self.check(at=AT % 4)))
+        self.assertIn("log:4: check without one snapshot: snapshot %s may be behind the Write of log:2" % (AT % 4), told)
+        self.assertEqual(self.report(shown, self.write(None, ["user:a"]), self.check(at=AT % 4)), "entries 1\nfindings 0\nverdict clean\n")
 
     def test_a_write_that_failed_wrote_nothing(self):
         failed = self.write(2, deletes=["user:a"]) | {"response": {"code": "write_failed_due_to_invalid_input", "message": "no"}}

@@ -1,17 +1,69 @@
 """Writes of which a log has the calls that made them."""
 import marshal
-from bisect import bisect_left
+from bisect import bisect_left, bisect_right
+from collections import defaultdict
 from copy import copy
 from itertools import accumulate
-from typing import Callable, Iterator, Optional, Union
+from typing import Callable, Iterator, NamedTuple, Optional, Union
 
 from new_enemy_tools.importing.checks import Row, column
 from new_enemy_tools.importing.events import Event
 from new_enemy_tools.importing.packed import Packed
 from new_enemy_tools.importing.refusals import Refusals
-from new_enemy_tools.importing.spool import CALL, CHECKS, Lines, found_in, row_of
+from new_enemy_tools.importing.spool import CALL, CHECKS, Lines, WriteRow, found_in, row_of
 
 ORDER = "%s:%d: a check saw this write before the line of its call: each such write is put before what saw it, and none is called F4"
+
+UNSHOWN = ("this Write is not among the changes, which go on behind its `time`: changes are missing; give all of them as ReadChanges "
+           "answers them")
+
+
+class Unshown(NamedTuple):
+    """A call whose write the service's changes do not show, and from when on they may not: it or what is behind it may be missing."""
+
+    since: int
+    file: str
+    line: int
+
+
+def _touched(row: WriteRow) -> Iterator[tuple[bool, Row]]:
+    return ((live, tuple(given)) for live, side in ((True, row.add), (False, row.remove)) for given in side)
+
+
+def unshown(lines: Lines, has_base: bool, refusals: Refusals) -> Optional[Unshown]:
+    """The first call whose write the changes, which end before it, do not show; where they go on behind such a call it is refused. What
+    stands before the changes belongs to the base state, where there is one."""
+    changes: dict[tuple[bool, Row], list[int]] = defaultdict(list)
+    calls: dict[tuple[bool, Row], dict[Optional[int], tuple[str, int]]] = defaultdict(dict)
+    for row in lines.writes():
+        for one in _touched(row):
+            changes[one].append(row.revision or 0)
+    times = [time for listed in changes.values() for time in listed]
+    if not times:
+        return None
+    first, last = min(times), max(times)
+    for row in lines.calls():
+        if not has_base or row.time is None or row.time > first:
+            for one in _touched(row):
+                # A line that stands twice is one call.
+                calls[one].setdefault(row.time, (row.file, row.line))
+    found: list[Unshown] = []
+    for one, listed in calls.items():
+        missing = _missing(sorted(changes.get(one, ())), [time for time in listed if time is not None], None in listed)
+        for time, place in ((time, listed[time]) for time in missing):
+            if time is not None and time < last:
+                refusals.refuse(*place, UNSHOWN)
+            else:
+                found.append(Unshown(last + 1 if time is None else time, *place))
+    return min(found, default=None)
+
+
+def _missing(changes: list[int], calls: list[int], has_timeless: bool) -> list[Optional[int]]:
+    """The time of the first call of one and the same change that has no change of its own, where there are fewer changes than calls."""
+    calls.sort()
+    if len(changes) < len(calls):
+        return [next(time for place, time in enumerate(calls) if bisect_right(changes, time) <= place)]
+    return [None] if has_timeless and not changes else []
 
 
 def _rows(lines: Lines) -> Iterator[Union[Event, Row]]:
@@ -98,7 +150,9 @@ def with_calls(lines: Lines, key_of: Callable[[Row], object], has_revisions: boo
         if isinstance(row, Event):
             continue
         if row[0] == CALL:
-            places[place] = None if key_of(row) in known else place
+            # One that says no revision was refused, or is not wanted.
+            is_placed = row[3] is not None or row[12] is not None
+            places[place] = place if is_placed and key_of(row) not in known else None
             first = seen.first(row[3]) if has_revisions and places[place] is not None and row[12] is None else None
             if first is not None:
                 refusals.note("calls", ORDER % row[1:3])

@@ -6,6 +6,7 @@ from typing import Any, Iterator, Optional
 
 from new_enemy_tools.importing import located, openfga_dsl, printed
 from new_enemy_tools.importing.block import When
+from new_enemy_tools.importing.called import unshown
 from new_enemy_tools.importing.checks import Look
 from new_enemy_tools.importing.events import EVERY, Event, Line, Relationship, RelationRule, Stamp, put_stamp
 from new_enemy_tools.importing.feed import Moment, asked_of, moment_of, placed, shown_of
@@ -302,10 +303,12 @@ class OpenFgaLog(Log):
         self._refuse_stores()
         refuse_missing(lines, skew is not None, self.base_at is not None, self.refusals)
         self.refuse_unseen(lines)
-        # Of a call the service does not say which changes are its; where the log has any, it has all.
+        # Of a call the service does not say which changes are its; where the log has any, it has all of what it shows.
+        ends = unshown(lines, self.base_at is not None, self.refusals) if lines.facts.has_calls else None
         lines = self.with_calls(lines, lambda row: None)
         first = len(self.rules.others) + 1
-        return placed(lines, self.base_at or Moment(None, None, "the beginning"), Given(self.models, first, self.apart), skew, self.refusals)
+        base = self.base_at or Moment(None, None, "the beginning")
+        return placed(lines, base, Given(self.models, first, self.apart), skew, self.refusals, ends)
 
     def may_store(self, given: Relationship) -> bool:
         """Which tuples some model takes is known when all models are."""
@@ -375,8 +378,10 @@ class OpenFgaLog(Log):
         request = get(value, "request")
         sides = [("deletes", False), ("writes", True)]
         keys = [(key, live) for side, live in sides for key in get(get(request, side), "tuple_keys") or ()]
-        if not keys or stamp.time is None or any(get(get(request, side), key) not in IN_FULL for side, key in PASSES_OVER):
+        if not keys or any(get(get(request, side), key) not in IN_FULL for side, key in PASSES_OVER):
             return
+        if stamp.time is None:
+            self.refusals.unseen.setdefault("Write", (path, line))
         for place, (key, live) in enumerate(keys):
             event = put_stamp(Event(CALL, path, line_of(key, line), stamp.time, get(value, "time")), stamp, place)
             self._put_key(event, key, live)
@@ -413,9 +418,10 @@ class OpenFgaLog(Log):
         holder = value if content is None else content
         asked = asked_of(value, get(holder, "token"), get(get(value, "request"), "authorization_model_id"))
         version, demanded = text_or_none(get(holder, "version"), "version"), get(get(value, "request"), "consistency")
-        if isinstance(demanded, bool) or not isinstance(demanded, (str, int, type(None))) or demanded not in CONSISTENCY:
+        asks_for_newest = CONSISTENCY[None] if demanded is None else one_of(CONSISTENCY, demanded)
+        if asks_for_newest is None:
             raise Bad("unknown consistency %r" % (demanded,))
-        return Looked(None, shown_of(asked), demand_of(content is None and CONSISTENCY[demanded], version, asked.token), version, asked)
+        return Looked(None, shown_of(asked), demand_of(content is None and asks_for_newest, version, asked.token), version, asked)
 
     def answers(self, value: dict[str, Any]) -> Iterator[Answer]:
         return answers_of(get(value, "request"), get(value, "response"), self.refusals)

@@ -21,8 +21,8 @@ from new_enemy_tools.rules import places
 
 
 def one_of(table: Mapping[Any, bool], value: object) -> Optional[bool]:
-    """What a name or a number stands for; None where the table does not have it."""
-    return table.get(value) if isinstance(value, (str, int)) and not isinstance(value, bool) else None
+    """What a name or a number stands for, which may have a fraction of zero; None where the table does not have it."""
+    return table.get(value) if isinstance(value, (str, int, float)) and not isinstance(value, bool) else None
 
 
 def text_or_none(value: object, what: str) -> Optional[str]:
@@ -71,6 +71,23 @@ class Answer(NamedTuple):
     goal: Relationship
     reply: bool
     unmapped: Optional[str]
+
+
+# A decision of which it can't be read what it was, and what is told of it.
+MANY = "one of several of this line"
+UNREAD = Answer(Relationship("?", "?", "?", "?", "?"), False, causes.UNREADABLE)
+
+
+def each(asked: list[Any], answer_of: Callable[[Any], Answer]) -> Iterator[Answer]:
+    """What is decided of each; one that can't be read costs no other. Raises Bad where there is no other."""
+    for one in asked:
+        try:
+            answer = answer_of(one)
+        except Bad:
+            if len(asked) == 1:
+                raise
+            answer = UNREAD
+        yield answer
 
 
 class Looked(NamedTuple):
@@ -255,7 +272,7 @@ class Log:
             except Bad as fault:
                 self.refusals.unread_check(path, line, causes.UNREADABLE, str(fault))
                 continue
-            if value is None:
+            if value is None and given is not None:
                 continue
             stamp = stamp_of(value if isinstance(value, dict) else {}, path, line, self.refusals)
             try:
@@ -358,11 +375,11 @@ class Log:
             self.refusals.unread_check(path, line, causes.UNREADABLE_CONTENT if is_content else causes.UNREADABLE, str(fault))
             return
         snapshot, shown, token, version, asked = looked
-        for place, (goal, reply, unmapped) in enumerate(answers):
-            entry = Entry("check" if content is None else "content", path, line, goal, reply, snapshot, shown, token, version, None,
-                          newest, asked, sequence_of(stamp, place), stamp.time, stamp.clock)
-            if unmapped:
-                self.refusals.unmapped_check(entry, unmapped, entry.told)
+        for place, answer in enumerate(answers):
+            entry = Entry("check" if content is None else "content", path, line, answer.goal, answer.reply, snapshot, shown, token, version,
+                          None, newest, asked, sequence_of(stamp, place), stamp.time, stamp.clock)
+            if answer.unmapped:
+                self.refusals.unmapped_check(entry, answer.unmapped, MANY if answer is UNREAD else entry.told)
             else:
                 yield entry
 

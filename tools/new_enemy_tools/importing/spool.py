@@ -287,15 +287,23 @@ class Lines:
         else:
             yield from map(self._line, found)
 
-    def events(self) -> Iterator[Union[Event, WriteRow]]:
-        """Those of the lines that are no checks; writes as their rows."""
+    def _among(self) -> Iterator[Row]:
+        """The lines as rows, but for checks in columns."""
         for batch in self.spool.batches():
             found = found_in(batch)
-            for row in (row for _, row in found.among()) if isinstance(found, Packed) else found:
-                if row[0] == "write":
-                    yield WriteRow._make(row)
-                elif row[0] == "rules":
-                    yield self.rules[row[1]]
+            yield from (row for _, row in found.among()) if isinstance(found, Packed) else found
+
+    def events(self) -> Iterator[Union[Event, WriteRow]]:
+        """Those of the lines that are no checks; writes as their rows."""
+        for row in self._among():
+            if row[0] == "write":
+                yield WriteRow._make(row)
+            elif row[0] == "rules":
+                yield self.rules[row[1]]
+
+    def calls(self) -> Iterator[WriteRow]:
+        """The writes that calls say which made them."""
+        return (WriteRow._make(row) for row in self._among() if row[0] == CALL)
 
     def writes(self) -> Iterator[WriteRow]:
         """The writes behind the base state."""
