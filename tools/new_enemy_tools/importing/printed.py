@@ -89,10 +89,15 @@ def mistyped(value: Any) -> Iterator[Unread]:
 
 
 def _is_slip(key: str) -> bool:
-    """Whether a key has the letters of one that a recorder adds in another order or case, or all but one of them. Those of servers are only
-    like them, as `context` is like `content`."""
+    """Whether a key has the letters of one that a recorder adds in another order or case, or one letter more or less. Those of servers are
+    only like them, as `context` is like `content`, or `versions`."""
     folded = key.lower()
-    return any(sorted(folded) == sorted(one) or any(folded == one[:at] + one[at + 1:] for at in range(len(one))) for one in ADDED)
+    return any(sorted(folded) == sorted(one) or folded in _without_one(one) or one in _without_one(folded) and folded != one + "s"
+               for one in ADDED)
+
+
+def _without_one(key: str) -> list[str]:
+    return [key[:at] + key[at + 1:] for at in range(len(key))]
 
 
 def _is_health(service: object) -> bool:
