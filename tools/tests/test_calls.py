@@ -100,6 +100,19 @@ class OpenFga(CallsCase):
             "check that can't be read, first at log:5: `users` is no list", "contextual tuples, first at log:4: doc:1#viewer@user:b")])
         self.assertEqual(len(said), 8)
 
+    def test_a_version_is_of_one_object(self):
+        """Of another object nobody saved it, and a right caller would be one that shows an unknown version."""
+        saves = {"request": key("user:a"), "response": {"allowed": True}, "snapshot": 2, "content": {"version": "v", "token": 2}}
+        def batch(*things):
+            checks = [key("user:a", thing) | {"correlation_id": thing} for thing in things]
+            return {"request": {"checks": checks}, "response": {"result": {thing: {"allowed": thing == "doc:1"} for thing in things}}, "snapshot": 2}
+        shown = {"version": "v", "token": 2}
+        self.assertEqual(self.struck(*self.words(saves, batch("doc:1", "doc:2") | shown)), [
+            "log:4: %s: a `version` is of one object, and this line asks of several" % causes.UNREADABLE] * 2)
+        self.forget()
+        self.imported(*self.words(saves, batch("doc:1", "doc:2"), batch("doc:1") | shown))
+        self.assertEqual(self.audited(), "entries 4\nfindings 0\nverdict clean\n")
+
     def test_a_content_check_asks_one_question(self):
         line = {"request": {"checks": [key("user:a") | {"correlation_id": "1"}, key("user:b") | {"correlation_id": "2"}]},
                 "response": {"result": {"1": {"allowed": True}, "2": {"allowed": True}}}, "snapshot": 2, "content": {"version": "v"}}

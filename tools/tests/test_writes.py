@@ -127,6 +127,10 @@ class SpiceDb(Case):
 class OpenFga(Case):
     check = staticmethod(test_openfga.check)
 
+    def forget(self):
+        for name in "trace.jsonl", "ids.jsonl":
+            os.remove(self.path(name))
+
     def words(self, *lines):
         self.put("model.json", MODEL % THIS)
         self.put("log", list(lines))
@@ -180,20 +184,21 @@ class OpenFga(Case):
     def test_a_write_behind_the_changes_that_they_do_not_show(self):
         """A reply behind it may be stale, or right by what was written; what is certainly before it is audited."""
         shown = change("user:a", at=AT % 1), change("user:b", at=AT % 3)
-        for written in self.write(4, ["user:c"]), self.write(4, deletes=["user:a"]):
-            for later in self.check("user:c", at=AT % 5, allowed=False), self.check("user:c", at=AT % 4), self.check(
-                    at=None, snapshot_between=[1, AT % 6]), self.check(at=1, token=AT % 7):
-                before = self.check(at=2), self.check(at=AT % 3)
+        for written in self.write(9, ["user:c"]), self.write(9, deletes=["user:a"]):
+            # It was made before it was logged.
+            for later in self.check("user:c", at=AT % 9, allowed=False), self.check("user:c", at=AT % 6), self.check(
+                    at=None, snapshot_between=[1, AT % 7]), self.check(at=1, token=AT % 8):
+                before = self.check(at=2), self.check(at=AT % 3), self.check(at=AT % 5)
                 told, = self.struck(*self.words(*shown, written, *before, later))
                 self.assertTrue(told.endswith("may be behind the Write of log:3, which the changes do not show: read them once more behind it"), told)
-                self.assertEqual(self.audited(), "entries 2\nfindings 0\nverdict clean\n")
-        behind = change("user:c", at=AT % 4)
-        self.assertIn("F10 wrong reply", self.report(*shown, self.write(4, ["user:c"]), behind, self.check("user:c", at=AT % 5, allowed=False)))
+                self.assertEqual(self.audited(), "entries 3\nfindings 0\nverdict clean\n")
+        behind = change("user:c", at=AT % 9)
+        self.assertIn("F10 wrong reply", self.report(*shown, self.write(9, ["user:c"]), behind, self.check("user:c", at=AT % 9, allowed=False)))
 
     def test_a_write_among_the_changes_that_they_do_not_show_is_refused(self):
         shown = change("user:a", at=AT % 1), change("user:b", at=AT % 4)
         told = "this Write is not among the changes, which go on behind its `time`: changes are missing; give all of them as ReadChanges answers them"
-        for written in self.write(2, ["user:c"]), self.write(3, deletes=["user:a"]), self.write(0, ["user:c"]):
+        for written in self.write(2, ["user:c"]), self.write(4, deletes=["user:a"]), self.write(0, ["user:c"]):
             for stale in self.check("user:c", at=AT % 5, allowed=False), self.check(at=1):
                 self.assertEqual(self.refused(*self.words(*shown, written, stale)), ["log:3: " + told])
         again = change("user:a", at=AT % 3, operation="DELETE"), change("user:a", at=AT % 5)
@@ -211,10 +216,20 @@ class OpenFga(Case):
         self.assertEqual(self.audited(), "entries 1\nfindings 0\nverdict clean\n")
 
     def test_a_write_without_a_time_that_the_changes_do_not_show(self):
-        shown, written = change("user:a", at=AT % 3), self.write(None, deletes=["user:a"])
-        told, = self.struck(*self.words(shown, written, self.check(at=AT % 3), self.check(at=AT % 4)))
-        self.assertIn("log:4: check without one snapshot: snapshot %s may be behind the Write of log:2" % (AT % 4), told)
-        self.assertEqual(self.report(shown, self.write(None, ["user:a"]), self.check(at=AT % 4)), "entries 1\nfindings 0\nverdict clean\n")
+        """It may stand anywhere; what the base state has may be written before, or behind all changes."""
+        shown, written = change("user:a", at=AT % 3), self.write(None, ["user:a"])
+        self.assertEqual(self.report(shown, written, self.check(at=AT % 4)), "entries 1\nfindings 0\nverdict clean\n")
+        told, = self.struck(*self.words(shown, written, written, self.check(at=AT % 3), self.check(at=AT % 4)))
+        self.assertIn("log:5: check without one snapshot: snapshot %s may be behind the Write of log:3" % (AT % 4), told)
+        self.forget()
+        gone = self.write(None, deletes=["user:a"])
+        self.assertEqual(self.refused(*self.words(shown, gone, self.check(at=1))), [
+            "log:2: this Write has no `time`, and is not among the changes: read them once more behind it, or give each line of Write its `time`"])
+        self.put("base.jsonl", [])
+        words = ["openfga", "--model", "model.json", "--base", "base.jsonl", "--base-at", "0", "log"]
+        self.put("log", [gone, shown, self.check(at=1), self.check(at=AT % 4)])
+        self.assertEqual(len(self.struck(*words)), 1)
+        self.assertEqual(self.audited(), "entries 1\nfindings 0\nverdict clean\n")
 
     def test_a_write_that_failed_wrote_nothing(self):
         failed = self.write(2, deletes=["user:a"]) | {"response": {"code": "write_failed_due_to_invalid_input", "message": "no"}}

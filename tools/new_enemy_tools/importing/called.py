@@ -16,10 +16,13 @@ ORDER = "%s:%d: a check saw this write before the line of its call: each such wr
 
 UNSHOWN = ("this Write is not among the changes, which go on behind its `time`: changes are missing; give all of them as ReadChanges "
            "answers them")
+# A call is logged behind its write: by the service's request timeout at most.
+TOOK = 3 * 10 ** 9
+UNSHOWN_TIMELESS = "this Write has no `time`, and is not among the changes: read them once more behind it, or give each line of Write its `time`"
 
 
 class Unshown(NamedTuple):
-    """A call whose write the service's changes do not show, and from when on they may not: it or what is behind it may be missing."""
+    """A call whose write the service's changes do not show, and from when on they may lack it."""
 
     since: int
     file: str
@@ -31,10 +34,12 @@ def _touched(row: WriteRow) -> Iterator[tuple[bool, Row]]:
 
 
 def unshown(lines: Lines, has_base: bool, refusals: Refusals) -> Optional[Unshown]:
-    """The first call whose write the changes, which end before it, do not show; where they go on behind such a call it is refused. What
-    stands before the changes belongs to the base state, where there is one."""
+    """The first call whose write the changes do not show, which end before it; where they go on behind it, it is refused. What stands
+    before them belongs to the base state, where there is one."""
     changes: dict[tuple[bool, Row], list[int]] = defaultdict(list)
-    calls: dict[tuple[bool, Row], dict[Optional[int], tuple[str, int]]] = defaultdict(dict)
+    # of each change the calls that made it, by their times; a line that stands twice is one call, but for one without a time
+    calls: dict[tuple[bool, Row], dict[int, Row]] = defaultdict(dict)
+    timeless: dict[tuple[bool, Row], list[Row]] = defaultdict(list)
     for row in lines.writes():
         for one in _touched(row):
             changes[one].append(row.revision or 0)
@@ -43,27 +48,26 @@ def unshown(lines: Lines, has_base: bool, refusals: Refusals) -> Optional[Unshow
         return None
     first, last = min(times), max(times)
     for row in lines.calls():
-        if not has_base or row.time is None or row.time > first:
-            for one in _touched(row):
-                # A line that stands twice is one call.
+        for one in _touched(row):
+            if row.time is None:
+                timeless[one].append((row.file, row.line))
+            elif not has_base or row.time > first:
                 calls[one].setdefault(row.time, (row.file, row.line))
     found: list[Unshown] = []
-    for one, listed in calls.items():
-        missing = _missing(sorted(changes.get(one, ())), [time for time in listed if time is not None], None in listed)
-        for time, place in ((time, listed[time]) for time in missing):
-            if time is not None and time < last:
-                refusals.refuse(*place, UNSHOWN)
+    for one in {**calls, **timeless}:
+        known, listed = sorted(changes[one]), sorted(calls[one])
+        if len(known) < len(listed):
+            # the first that has no change of its own
+            time = next(time for place, time in enumerate(listed) if bisect_right(known, time) <= place)
+            if time <= last:
+                refusals.refuse(*calls[one][time], UNSHOWN)
             else:
-                found.append(Unshown(last + 1 if time is None else time, *place))
+                found.append(Unshown(max(last + 1, time - TOOK), *calls[one][time]))
+        elif timeless[one] and not known and not has_base:
+            refusals.refuse(*timeless[one][0], UNSHOWN_TIMELESS)
+        elif len(known) < len(listed) + len(timeless[one]):
+            found.append(Unshown(last + 1, *timeless[one][-1]))
     return min(found, default=None)
-
-
-def _missing(changes: list[int], calls: list[int], has_timeless: bool) -> list[Optional[int]]:
-    """The time of the first call of one and the same change that has no change of its own, where there are fewer changes than calls."""
-    calls.sort()
-    if len(changes) < len(calls):
-        return [next(time for place, time in enumerate(calls) if bisect_right(changes, time) <= place)]
-    return [None] if has_timeless and not changes else []
 
 
 def _rows(lines: Lines) -> Iterator[Union[Event, Row]]:

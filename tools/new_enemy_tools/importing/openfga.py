@@ -274,6 +274,9 @@ class OpenFgaLog(Log):
         # the models of the log, each once; and what was refused of those that were read and never in force, which matters where they are used
         self.models = [rules, *rules.others]
         self.apart: dict[int, Refusals] = {}
+        # of the pages of the base state where the last one stands that has another behind it, while none was the last
+        self.goes_on: Optional[tuple[str, int]] = None
+        self.is_whole = False
 
     @staticmethod
     def read_base(text: str) -> Optional[Moment]:
@@ -301,6 +304,8 @@ class OpenFgaLog(Log):
 
     def placed(self, lines: Lines, skew: Optional[int]) -> Lines:
         self._refuse_stores()
+        if self.goes_on is not None and not self.is_whole:
+            self.refusals.refuse(*self.goes_on, "the base state goes on behind this page, which has a `continuation_token`: give all pages of Read")
         refuse_missing(lines, skew is not None, self.base_at is not None, self.refusals)
         self.refuse_unseen(lines)
         # Of a call the service does not say which changes are its; where the log has any, it has all of what it shows.
@@ -318,6 +323,9 @@ class OpenFgaLog(Log):
         """Tuples as Read gives them, pages with `tuples` or one tuple a line; or those of a store file."""
         for line, value in self._store(path) if is_yaml(path) else located.values(path, self.refusals):
             page = value if isinstance(value, list) else get(value, "tuples")
+            if isinstance(get(value, "tuples"), list):
+                self.goes_on = (path, line) if get(value, "continuation_token") else self.goes_on
+                self.is_whole |= not get(value, "continuation_token")
             for one in page if isinstance(page, list) else [value]:
                 event = Event("write", path, line_of(one, line), 0, self.base_at.shown, base=True)
                 if self._put_key(event, one if get(one, "key") is None else get(one, "key"), True):
@@ -432,6 +440,8 @@ class OpenFgaLog(Log):
 
     def change(self, model: object, value: dict[str, Any], stamp: Stamp, path: str, line: int) -> Iterator[Event]:
         """A model that is in force from here on: that of WriteAuthorizationModel, or one that a recorder names."""
+        if get(value, "request") is not None and get(value, "response") is None:
+            raise Bad("the line of this WriteAuthorizationModel has no response, so that it is not known whether the model came into force")
         rules = ModelReader(path, self.refusals, line).rules(model)
         model_id = get(get(value, "response"), "authorization_model_id")
         if not isinstance(model_id, (str, type(None))):

@@ -290,7 +290,7 @@ class Log:
         elif self.is_write(changes):
             self.refuse_partial(get(value, "request"), changes, stamp, path, line)
             yield from self.writes(changes, stamp, path, line)
-        elif (rules := self.new_rules(value)) is not None:
+        elif (rules := self.new_rules(value)) is not None and passing.failure_of(value, self.DECIDES) is None:
             yield from self.change(rules, value, stamp, path, line)
         else:
             yield from self._call(value, is_check, stamp, path, line)
@@ -375,6 +375,10 @@ class Log:
             self.refusals.unread_check(path, line, causes.UNREADABLE_CONTENT if is_content else causes.UNREADABLE, str(fault))
             return
         snapshot, shown, token, version, asked = looked
+        if version is not None and len({one.goal[:2] for one in answers if one is not UNREAD}) > 1:
+            for _ in answers:
+                self.refusals.unread_check(path, line, causes.UNREADABLE, "a `version` is of one object, and this line asks of several")
+            return
         for place, answer in enumerate(answers):
             entry = Entry("check" if content is None else "content", path, line, answer.goal, answer.reply, snapshot, shown, token, version,
                           None, newest, asked, sequence_of(stamp, place), stamp.time, stamp.clock)
