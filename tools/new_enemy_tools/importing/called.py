@@ -38,8 +38,8 @@ def unshown(lines: Lines, has_base: bool, refusals: Refusals) -> Optional[Unshow
     before them belongs to the base state, where there is one."""
     changes: dict[tuple[bool, Row], list[int]] = defaultdict(list)
     # of each change the calls that made it, by their times; a line that stands twice is one call, but for one without a time
-    calls: dict[tuple[bool, Row], dict[int, Row]] = defaultdict(dict)
-    timeless: dict[tuple[bool, Row], list[Row]] = defaultdict(list)
+    calls: dict[tuple[bool, Row], dict[int, tuple[str, int]]] = defaultdict(dict)
+    timeless: dict[tuple[bool, Row], list[tuple[str, int]]] = defaultdict(list)
     for row in lines.writes():
         for one in _touched(row):
             changes[one].append(row.revision or 0)
@@ -54,7 +54,7 @@ def unshown(lines: Lines, has_base: bool, refusals: Refusals) -> Optional[Unshow
             elif not has_base or row.time > first:
                 calls[one].setdefault(row.time, (row.file, row.line))
     found: list[Unshown] = []
-    for one in {**calls, **timeless}:
+    for one in dict.fromkeys([*calls, *timeless]):
         known, listed = sorted(changes[one]), sorted(calls[one])
         if len(known) < len(listed):
             # the first that has no change of its own
