@@ -12,7 +12,7 @@ from new_enemy_tools.importing import causes, openfga_answers, passing, printed,
 from new_enemy_tools.importing.openfga import OpenFgaLog
 from new_enemy_tools.importing.reading import Bad, get
 from new_enemy_tools.importing.spicedb import SpiceDbLog
-from new_enemy_tools.importing.spicedb_answers import revision_at
+from new_enemy_tools.importing.spicedb_answers import revision_at, revision_in
 from new_enemy_tools.importing.service import Answer, content_of, text_or_none
 from new_enemy_tools.importing.times import nanoseconds, text_of_time
 from new_enemy_tools.recording.bodies import UNHEARD, body_of
@@ -119,17 +119,27 @@ def _of_tokens(call: Call) -> dict[str, Any]:
     if found.number is None:
         raise Bad("a snapshot of PostgreSQL, which only ne import spicedb can place")
     token = call.token if call.save is not None else demanded_by(call.asked)
+    if token is not None and revision_in({"token": token}, "the request's consistency").number is None:
+        raise Bad("a token of PostgreSQL, which only ne import spicedb can place")
     return {"newest": get(get(call.asked, "consistency"), "fullyConsistent") is True, "snapshot": found.shown, "token": token}
 
 
 def _saved(call: Call, answer: Optional[Answer]) -> dict[str, Any]:
     """The version that a call may have saved which is not taken."""
-    thing = None if answer is None else answer.goal[:2]
-    if thing is None and call.save is not None:
+    thing = [] if answer is None else [*answer.goal[:2]]
+    if answer is None and call.save is not None:
         found, resource = get(get(call.asked, "tuple_key"), "object"), get(call.asked, "resource")
-        thing = tuple(found.split(":", 1)) if isinstance(found, str) and ":" in found else (  # type: ignore[assignment]
-            None if resource is None else (get(resource, "objectType"), get(resource, "objectId")))
-    return {} if not call.save or thing is None else {"version": [*thing, call.save]}
+        thing = found.split(":", 1) if isinstance(found, str) else [get(resource, "objectType"), get(resource, "objectId")]
+    is_known = len(thing) == 2 and all(isinstance(one, str) for one in thing)
+    return {"version": [*thing, call.save]} if call.save and is_known else {}
+
+
+def _method(row: Row, value: Value) -> Optional[str]:
+    """The call of a line; raises JoinFault."""
+    try:
+        return passing.method_of(value)
+    except Bad as fault:
+        raise _fault(row, str(fault)) from None
 
 
 def _named(row: Row, value: Value) -> tuple[Optional[str], Optional[str], Optional[str]]:
@@ -180,7 +190,7 @@ class Payloads:
             return None
         if passing.failure_of(value, SpiceDbLog.DECIDES) is not None:
             return FAILED
-        if passing.method_of(value) not in SpiceDbLog.DECISIONS:
+        if _method(row, value) not in SpiceDbLog.DECISIONS:
             return OTHER
         save, version, token = _named(row, value)
         why = causes.UNREADABLE if asked is None else None
@@ -207,7 +217,7 @@ def _logged(row: Row, took: int) -> Any:
     _refuse_placed(row, value, "openfga")
     if passing.failure_of(value, OpenFgaLog.DECIDES) is not None:
         return FAILED
-    if passing.method_of(value) not in OpenFgaLog.DECISIONS:
+    if _method(row, value) not in OpenFgaLog.DECISIONS:
         return OTHER
     ended = nanoseconds(value.get("time"))
     if ended is None:
