@@ -26,6 +26,7 @@ from new_enemy_tools.recording.sequencer import Commit, Known, Sequencer
 from new_enemy_tools.recording.spicedb import call_of as spicedb_call
 from tests.support import Case
 
+SESSIONS = 300
 ANSWER = b"HTTP/1.1 200 OK\r\nContent-Type: application/json\r\n"
 
 
@@ -101,7 +102,7 @@ class Reading(Case):
 
     @unittest.skipUnless(importlib.util.find_spec("h11"), "h11 is not installed")
     def test_no_session_is_read_in_another_way_than_by_h11(self):
-        run = self.run_dev("compare_http", "--sessions", "300")
+        run = self.run_dev("compare_http", "--sessions", str(SESSIONS))
         self.assertEqual((run.returncode, "two ways" in run.stdout), (0, False), run.stdout)
         with mock.patch.object(Head, "length", lambda head: 0):
             run = self.run_dev("compare_http", "--sessions", "30")
