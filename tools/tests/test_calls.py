@@ -87,6 +87,9 @@ class OpenFga(CallsCase):
         self.assertEqual(said[0], "passed over 1: call that found nothing")
         self.assertEqual(self.goals(), ["doc:1#viewer@a true", "doc:2#viewer@a true", "doc:1#viewer@b true"])
         self.assertEqual(self.audited().splitlines()[:2], ["line 6: F10 wrong reply", "line 7: F10 wrong reply"])
+        broken = objects | {"response": [{"result": {"object": "doc:1"}}, {"error": {"grpc_code": 4, "message": "late"}}]}
+        self.assertIn("passed over 1: failed request (late)\n", self.imported(*self.words(broken)))
+        self.assertEqual(self.goals(), ["doc:1#viewer@a true"])
 
     def test_users_that_are_none(self):
         users = {"request": {"object": {"type": "doc", "id": "1"}, "relation": "viewer", "user_filters": [{}]}, "response": {"users": [
@@ -178,6 +181,10 @@ class SpiceDb(CallsCase):
         for line in resources, subjects:
             for bare in {"request": line["request"]}, line | {"response": None}:
                 self.assertEqual(self.struck(*self.words(bare)), ["log:2: %s: %s" % (causes.UNREADABLE, told)])
+        broken = [line | {"response": [*(line["response"] if isinstance(line["response"], list) else [line["response"]]), {"error": {"code": 4}}]}
+                  for line in (resources, subjects)]
+        self.assertIn("passed over 2: failed request (4)\n", self.imported(*self.words(*broken)))
+        self.assertEqual(self.goals(), ["doc:1#view@a true", "doc:2#view@a true", "doc:1#view@b true"])
         odd = resources | {"response": [*resources["response"], {"lookedUpAt": at, "resourceObjectId": 7}]}
         self.assertEqual(self.struck(*self.words(odd)), ["log:2: %s: one of several of this line" % causes.UNREADABLE])
 

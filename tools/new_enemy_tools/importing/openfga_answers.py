@@ -7,7 +7,7 @@ from new_enemy_tools.importing.events import EVERY, Relationship
 from new_enemy_tools.importing.passing import failure_of
 from new_enemy_tools.importing.reading import Bad, get
 from new_enemy_tools.importing.refusals import Refusals
-from new_enemy_tools.importing.service import UNREAD, Answer, each
+from new_enemy_tools.importing.service import UNREAD, Answer, each, streamed
 
 # What a denial may have without its `allowed`.
 SILENT = frozenset(("allowed", "resolution"))
@@ -50,7 +50,7 @@ def answers_of(request: object, response: object, refusals: Refusals) -> Iterato
     elif get(request, "user_filters") is not None:
         yield from _list_users(request, response)
     elif get(request, "type") is not None:
-        yield from _list_objects(request, response)
+        yield from _list_objects(request, response, refusals)
     else:
         yield _answer(request, request, response)
 
@@ -120,11 +120,10 @@ def _one_of_many(request: object, check: object, result: object) -> Answer:
         return Answer(relationship_of(get(check, "tuple_key")), False, causes.UNREADABLE)
 
 
-def _list_objects(request: object, response: object) -> Iterator[Answer]:
-    """Of a StreamedListObjects the answers stand in a list or one by one, bare or as a `result`."""
-    streamed = [get(one, "result") or one for one in (response if isinstance(response, list) else [response])]
-    if isinstance(response, list) or get(streamed[0], "object") is not None:
-        found = [get(one, "object") for one in streamed]
+def _list_objects(request: object, response: object, refusals: Refusals) -> Iterator[Answer]:
+    """Of a StreamedListObjects the answers stand in a list or one by one."""
+    if isinstance(response, list) or get(get(response, "result") or response, "object") is not None:
+        found = [get(one, "object") for one in streamed(response if isinstance(response, list) else [response], refusals)]
     else:
         found = _listed(response, "objects")
     yield from each(found, lambda thing: _positive(request, thing, get(request, "user")))

@@ -90,6 +90,18 @@ def each(asked: list[Any], answer_of: Callable[[Any], Answer]) -> Iterator[Answe
         yield answer
 
 
+def streamed(responses: list[Any], refusals: Refusals) -> list[Any]:
+    """The answers of a call that streams them, each bare or as a `result`; a fault at their end is counted."""
+    found = []
+    for one in responses:
+        failed = None if get(one, "result") is not None else passing.failure_of(one, ())
+        if failed is None:
+            found.append(get(one, "result") or one)
+        else:
+            refusals.pass_over(failed)
+    return found
+
+
 class Looked(NamedTuple):
     """The snapshot and the token of a check, and its version."""
 

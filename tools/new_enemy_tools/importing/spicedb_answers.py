@@ -7,7 +7,7 @@ from new_enemy_tools.importing.events import EVERY, Relationship
 from new_enemy_tools.importing.passing import failure_of
 from new_enemy_tools.importing.reading import Bad, get
 from new_enemy_tools.importing.refusals import Refusals
-from new_enemy_tools.importing.service import UNREAD, Answer, each, one_of, text_or_none
+from new_enemy_tools.importing.service import UNREAD, Answer, each, one_of, streamed, text_or_none
 from new_enemy_tools.importing.zedtokens import Older, Revision, read_revision
 
 REPLIES = {"PERMISSIONSHIP_HAS_PERMISSION": True, "PERMISSIONSHIP_NO_PERMISSION": False}
@@ -74,17 +74,17 @@ def answers_of(request: object, response: object, refusals: Refusals) -> Iterato
     if get(request, "items") is not None:
         yield from _bulk(request, response, refusals)
     elif get(request, "resourceObjectType") is not None:
-        yield from each(_looked_up(response), partial(_resource, request))
+        yield from each(_looked_up(response, refusals), partial(_resource, request))
     elif get(request, "subjectObjectType") is not None:
-        yield from each(_looked_up(response), partial(_found_subject, request))
+        yield from each(_looked_up(response, refusals), partial(_found_subject, request))
     else:
         yield _answer(request, get(request, "resource"), get(request, "subject"), response)
 
 
-def _looked_up(response: object) -> list[Any]:
+def _looked_up(response: object, refusals: Refusals) -> list[Any]:
     if response is None:
         raise Bad("the line has no response of the lookup: a list is empty where it found nothing")
-    return responses_of(response) if response else []
+    return streamed(response if isinstance(response, list) else [response], refusals) if response else []
 
 
 def _resource(request: object, found: object) -> Answer:
