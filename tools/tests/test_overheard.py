@@ -122,8 +122,13 @@ class Parts(Case):
         self.assertEqual(self.places(joined(rows, [logged(15)])[0]), [[0, 1]])
 
     def test_seconds_since_1970(self):
-        made, _ = joined(log((10, "a")), [logged(0, timestamp=nanoseconds(at(15)) / 1e9)])
-        self.assertEqual(self.places(made), [[1, 1]])
+        seconds = nanoseconds(at(15)) / 1e9
+        for stamp in seconds, int(seconds), seconds + 0.25, "2024-01-01T02:00:15.000+0200":
+            made, _ = joined(log((10, "a")), [logged(0, timestamp=stamp)])
+            self.assertEqual(self.places(made), [[1, 1]])
+        for stamp in True, -1, 1e300, "2024-01-01T02:00:15.000+02":
+            with self.assertRaises(JoinFault):
+                joined(log((10, "a")), [logged(0, timestamp=stamp)])
 
     def test_calls_that_decide_several_things(self):
         batch = {"checks": [{"tuple_key": KEY, "correlation_id": "1"}, {"tuple_key": {**KEY, "user": "user:b"}, "correlation_id": "2"}]}
