@@ -11,8 +11,9 @@ Of SpiceDB there is no store, and each check says by which token it was answered
         answer = client.CheckPermission(...)
         asked.reply, asked.snapshot = answer.permissionship == 2, answer.checked_at.token
 
-Each process has a file of its own in the folder, so make `Events` behind a fork. `ne record --changes-only` records the changes meanwhile, and `ne join` puts both
-together; docs/RECORDING.md has the format. What fails here fails no request: it is counted on the next line that can be written.
+Each process has a file of its own in the folder, so make `Events` behind a fork. `ne record --changes-only` records the
+changes meanwhile, and `ne join` puts both together; docs/RECORDING.md has the format. What fails here fails no request:
+it is counted on the next line that can be written.
 """
 import contextlib
 import json

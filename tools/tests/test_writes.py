@@ -207,6 +207,8 @@ class OpenFga(Case):
         os.remove(self.path("trace.jsonl"))
         os.remove(self.path("ids.jsonl"))
         self.assertEqual(self.refused(*self.words(*lines[1:], self.check(at=1))), ["log:1: " + told])
+        # A change that is read twice is one.
+        self.assertEqual(self.refused(*self.words(*lines[:2], *lines[:1], self.write(2, ["user:a"]), again[0], self.check(at=1))), ["log:4: " + told])
         # Each line of a call may stand twice, and what the base state has may be written before.
         self.assertEqual(self.report(*lines, *lines[1:3], self.check(at=AT % 5)), "entries 1\nfindings 0\nverdict clean\n")
         self.put("base.jsonl", [{"key": change("user:c")["tuple_key"]}])

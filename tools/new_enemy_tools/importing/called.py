@@ -36,13 +36,14 @@ def _touched(row: WriteRow) -> Iterator[tuple[bool, Row]]:
 def unshown(lines: Lines, has_base: bool, refusals: Refusals) -> Optional[Unshown]:
     """The first call whose write the changes do not show, which end before it; where they go on behind it, it is refused. What stands
     before them belongs to the base state, where there is one."""
-    changes: dict[tuple[bool, Row], list[int]] = defaultdict(list)
+    # the times of each change, of which one may be read twice
+    changes: dict[tuple[bool, Row], set[int]] = defaultdict(set)
     # of each change the calls that made it, by their times; a line that stands twice is one call, but for one without a time
     calls: dict[tuple[bool, Row], dict[int, tuple[str, int]]] = defaultdict(dict)
     timeless: dict[tuple[bool, Row], list[tuple[str, int]]] = defaultdict(list)
     for row in lines.writes():
         for one in _touched(row):
-            changes[one].append(row.revision or 0)
+            changes[one].add(row.revision or 0)
     times = [time for listed in changes.values() for time in listed]
     if not times:
         return None
