@@ -25,6 +25,10 @@ class SpiceDb(Case):
         self.said = self.imported(*self.words(*lines))
         return self.audited()
 
+    def forget(self):
+        for name in "trace.jsonl", "ids.jsonl":
+            os.remove(self.path(name))
+
     check = staticmethod(test_spicedb.check)
 
     def test_calls_that_wrote_are_changes(self):
@@ -102,6 +106,17 @@ class SpiceDb(Case):
         failed = [{**asked, "status": status} for status in ("UNAVAILABLE", "2", "503 late", {"code": 14})]
         self.assertEqual(self.report(watch(1, update("user:a")), *fine, *failed), "entries 5\nfindings 0\nverdict clean\n")
         self.assertEqual(self.said.count("failed request"), 4)
+        for status in "InvalidArgument", "Code(17)", "NOT_FOUND", "failed", "404":
+            self.report(watch(1, update("user:a")), {**asked, "status": status})
+            self.assertIn("passed over 1: failed request (%s)\n" % status, self.said)
+
+    def test_a_status_of_which_it_is_not_known_what_it_says(self):
+        """A write that was taken for one that failed would make a stale reply right."""
+        wrote = written(1, update("user:a"))
+        self.assertIn("F10 wrong reply", self.report({**wrote, "status": "Success"}, self.check(1, reply="NO")))
+        self.forget()
+        self.assertEqual(self.refused(*self.words({**wrote, "status": "done"}, self.check(1))), [
+            "log:1: it is not known whether the `status` 'done' says that the call failed: give a number, or gRPC's name of a code"])
 
     def test_a_tuple_of_a_call_that_has_no_form_is_left_out(self):
         bad = written(1, update("user:a", optionalCaveat={"caveatName": "c"}))

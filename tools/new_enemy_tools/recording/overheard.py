@@ -13,7 +13,7 @@ from new_enemy_tools.importing.openfga import OpenFgaLog
 from new_enemy_tools.importing.reading import Bad, get
 from new_enemy_tools.importing.spicedb import SpiceDbLog
 from new_enemy_tools.importing.spicedb_answers import revision_at, revision_in
-from new_enemy_tools.importing.service import Answer, content_of, text_or_none
+from new_enemy_tools.importing.service import Answer, Log, content_of, text_or_none
 from new_enemy_tools.importing.times import nanoseconds, text_of_time
 from new_enemy_tools.recording.bodies import UNHEARD, body_of
 from new_enemy_tools.recording.core import refuse_headers
@@ -134,10 +134,12 @@ def _saved(call: Call, answer: Optional[Answer]) -> dict[str, Any]:
     return {"version": [*thing, call.save]} if call.save and is_known else {}
 
 
-def _method(row: Row, value: Value) -> Optional[str]:
-    """The call of a line; raises JoinFault."""
+def _passed(row: Row, value: Value, log: type[Log]) -> Optional[str]:
+    """What is counted of a line that decides nothing; raises JoinFault."""
     try:
-        return passing.method_of(value)
+        if passing.failure_of(value, log.DECIDES) is not None:
+            return FAILED
+        return None if passing.method_of(value) in log.DECISIONS else OTHER
     except Bad as fault:
         raise _fault(row, str(fault)) from None
 
@@ -188,10 +190,9 @@ class Payloads:
             if printed.REQUEST in row.value:
                 self.began[row.line] = at
             return None
-        if passing.failure_of(value, SpiceDbLog.DECIDES) is not None:
-            return FAILED
-        if _method(row, value) not in SpiceDbLog.DECISIONS:
-            return OTHER
+        passed = _passed(row, value, SpiceDbLog)
+        if passed is not None:
+            return passed
         save, version, token = _named(row, value)
         why = causes.UNREADABLE if asked is None else None
         began, ended = at if asked is None else self.began[asked[1]], at + (CUT if "." in row.value["time"] else SECOND)
@@ -215,10 +216,9 @@ def _logged(row: Row, took: int) -> Any:
         raise _fault(row, "no line of OpenFGA's log in JSON, and no tap of Envoy's tap filter (`%s`)" % printed.TAP)
     value = printed.unwrapped(given, OpenFgaLog.KEYS)
     _refuse_placed(row, value, "openfga")
-    if passing.failure_of(value, OpenFgaLog.DECIDES) is not None:
-        return FAILED
-    if _method(row, value) not in OpenFgaLog.DECISIONS:
-        return OTHER
+    passed = _passed(row, value, OpenFgaLog)
+    if passed is not None:
+        return passed
     ended = nanoseconds(value.get("time"))
     if ended is None:
         raise _fault(row, "the line has no `timestamp`, as seconds since 1970 or as a time of RFC 3339")
