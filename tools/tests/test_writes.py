@@ -237,7 +237,7 @@ class OpenFga(Case):
         shown, written = change("user:a", at=AT % 3), self.write(None, ["user:a"])
         self.assertEqual(self.report(shown, written, self.check(at=AT % 4)), "entries 1\nfindings 0\nverdict clean\n")
         told, = self.struck(*self.words(shown, written, written, self.check(at=AT % 3), self.check(at=AT % 4)))
-        self.assertIn("log:5: check without one snapshot: snapshot %s may be behind the Write of log:3" % (AT % 4), told)
+        self.assertIn("log:5: check without one snapshot: snapshot %s may be behind the Write of log:2" % (AT % 4), told)
         self.forget()
         gone = self.write(None, deletes=["user:a"])
         self.assertEqual(self.refused(*self.words(shown, gone, self.check(at=1))), [

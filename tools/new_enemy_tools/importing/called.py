@@ -1,9 +1,9 @@
 """Writes of which a log has the calls that made them."""
 import marshal
 from bisect import bisect_left, bisect_right
-from collections import defaultdict
+from collections import Counter
 from copy import copy
-from itertools import accumulate
+from itertools import accumulate, chain, groupby
 from typing import Callable, Iterator, NamedTuple, Optional, Union
 
 from new_enemy_tools.importing.checks import Row, column
@@ -18,6 +18,9 @@ UNSHOWN = ("this Write is not among the changes, which go on behind its `time`: 
            "answers them")
 # A call is logged behind its write: by the service's request timeout at most.
 TOOK = 3 * 10 ** 9
+# A mark is a change and a time, of so many bits each, and a time counts from long ago.
+BITS = 64
+MASK, EPOCH = (1 << BITS) - 1, 1 << BITS - 1
 UNSHOWN_TIMELESS = "this Write has no `time`, and is not among the changes: read them once more behind it, or give each line of Write its `time`"
 
 
@@ -29,45 +32,48 @@ class Unshown(NamedTuple):
     line: int
 
 
-def _touched(row: WriteRow) -> Iterator[tuple[bool, Row]]:
-    return ((live, tuple(given)) for live, side in ((True, row.add), (False, row.remove)) for given in side)
+def _marks(row: WriteRow, time: int) -> Iterator[int]:
+    """A number for each tuple that a write adds or removes: first what it does, then a time. Of many, numbers take little memory."""
+    for is_added, side in ((True, row.add), (False, row.remove)):
+        for given in side:
+            yield (hash((is_added, *given)) & MASK) << BITS | time + EPOCH
+
+
+def _times_of(marks: list[int], change: int) -> list[int]:
+    """The times at which a change was made, each once, by marks in their order."""
+    start, end = bisect_left(marks, change << BITS), bisect_left(marks, (change + 1) << BITS)
+    return [(mark & MASK) - EPOCH for mark, _ in groupby(marks[start:end])]
 
 
 def unshown(lines: Lines, has_base: bool, refusals: Refusals) -> Optional[Unshown]:
     """The first call whose write the changes do not show, which end before it; where they go on behind it, it is refused. What stands
     before them belongs to the base state, where there is one."""
-    # the times of each change, of which one may be read twice
-    changes: dict[tuple[bool, Row], set[int]] = defaultdict(set)
-    # of each change the calls that made it, by their times; a line that stands twice is one call, but for one without a time
-    calls: dict[tuple[bool, Row], dict[int, tuple[str, int]]] = defaultdict(dict)
-    timeless: dict[tuple[bool, Row], list[tuple[str, int]]] = defaultdict(list)
-    for row in lines.writes():
-        for one in _touched(row):
-            changes[one].add(row.revision or 0)
-    times = [time for listed in changes.values() for time in listed]
-    if not times:
+    changes = sorted(mark for row in lines.writes() for mark in _marks(row, row.revision or 0))
+    if not changes:
         return None
-    first, last = min(times), max(times)
-    for row in lines.calls():
-        for one in _touched(row):
-            if row.time is None:
-                timeless[one].append((row.file, row.line))
-            elif not has_base or row.time > first:
-                calls[one].setdefault(row.time, (row.file, row.line))
-    found: list[Unshown] = []
-    for one in dict.fromkeys([*calls, *timeless]):
-        known, listed = sorted(changes[one]), sorted(calls[one])
+    first, last = (find(mark & MASK for mark in changes) - EPOCH for find in (min, max))
+    calls = sorted(mark for row in lines.calls() if row.time is not None and (not has_base or row.time > first) for mark in _marks(row, row.time))
+    timeless = Counter(mark >> BITS for row in lines.calls() if row.time is None for mark in _marks(row, 0))
+    # the marks of calls that have no change of their own; and of those without a time the changes, with how many there are
+    missing, fewer = set[int](), dict[int, int]()
+    for change in chain((change for change, _ in groupby(calls, lambda mark: mark >> BITS)), timeless):
+        known, listed = _times_of(changes, change), _times_of(calls, change)
         if len(known) < len(listed):
-            # the first that has no change of its own
             time = next(time for place, time in enumerate(listed) if bisect_right(known, time) <= place)
-            if time <= last:
-                refusals.refuse(*calls[one][time], UNSHOWN)
-            else:
-                found.append(Unshown(max(last + 1, time - TOOK), *calls[one][time]))
-        elif timeless[one] and not known and not has_base:
-            refusals.refuse(*timeless[one][0], UNSHOWN_TIMELESS)
-        elif len(known) < len(listed) + len(timeless[one]):
-            found.append(Unshown(last + 1, *timeless[one][-1]))
+            missing.add(change << BITS | time + EPOCH)
+        elif len(known) < len(listed) + timeless[change]:
+            fewer[change] = len(known)
+    found: list[Unshown] = []
+    for row in lines.calls() if missing or fewer else ():
+        for mark in _marks(row, row.time or 0):
+            if row.time is not None and mark in missing and row.time <= last:
+                refusals.refuse(row.file, row.line, UNSHOWN)
+            elif row.time is not None and mark in missing:
+                found.append(Unshown(max(last + 1, row.time - TOOK), row.file, row.line))
+            elif row.time is None and fewer.get(mark >> BITS) == 0 and not has_base:
+                refusals.refuse(row.file, row.line, UNSHOWN_TIMELESS)
+            elif row.time is None and mark >> BITS in fewer:
+                found.append(Unshown(last + 1, row.file, row.line))
     return min(found, default=None)
 
 
