@@ -8,7 +8,7 @@ from typing import Callable, Iterator, NamedTuple, Optional, Union
 
 from new_enemy_tools.importing.checks import Row, column
 from new_enemy_tools.importing.events import Event
-from new_enemy_tools.importing.packed import Packed
+from new_enemy_tools.importing.packed import Indexer, Packed
 from new_enemy_tools.importing.refusals import Refusals
 from new_enemy_tools.importing.spool import CALL, CHECKS, Lines, WriteRow, found_in, row_of
 
@@ -144,6 +144,25 @@ def _in_place(lines: Lines) -> Optional[Lines]:
 
 def _written(row: Row) -> Row:
     return ("write", *row[1:]) if row[0] == CALL else row
+
+
+def without_calls(lines: Lines, indexer: Indexer) -> tuple[Lines, int]:
+    """The lines without calls, blocks as blocks, and how many there were."""
+    made, count = Lines(ids=lines.ids), 0
+    made.rules, made.facts = lines.rules, copy(lines.facts)
+    made.facts.has_calls = False
+    for batch in lines.spool.batches():
+        found = found_in(batch)
+        if isinstance(found, Packed):
+            checks = found.checks()
+            others = [one for one in checks.others if one[2][0] != CALL]
+            count += len(checks.others) - len(others)
+            made.spool.add_batch(batch if len(others) == len(checks.others) else indexer.read(checks._replace(others=others)))
+        else:
+            rows = [row for row in found if row[0] != CALL]
+            count += len(found) - len(rows)
+            made.spool.add_batch(marshal.dumps(rows))
+    return made, count
 
 
 def with_calls(lines: Lines, key_of: Callable[[Row], object], has_revisions: bool, refusals: Refusals) -> tuple[Lines, int]:

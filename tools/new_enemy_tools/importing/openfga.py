@@ -6,7 +6,7 @@ from typing import Any, Iterator, Optional
 
 from new_enemy_tools.importing import located, openfga_dsl, printed
 from new_enemy_tools.importing.block import When
-from new_enemy_tools.importing.called import unshown
+from new_enemy_tools.importing.called import unshown, without_calls
 from new_enemy_tools.importing.checks import Look
 from new_enemy_tools.importing.events import EVERY, Event, Line, Relationship, RelationRule, Stamp, put_stamp
 from new_enemy_tools.importing.feed import Moment, asked_of, moment_of, placed, shown_of
@@ -14,10 +14,11 @@ from new_enemy_tools.importing.located import List, line_at, line_of
 from new_enemy_tools.importing.models import Given, said_by
 from new_enemy_tools.importing.openfga_answers import answers_of, relationship_of
 from new_enemy_tools.importing.pages import Page, refuse_missing
+from new_enemy_tools.importing.packed import Indexer
 from new_enemy_tools.importing.reading import Bad, get, spelled
 from new_enemy_tools.importing.refusals import Refusals
 from new_enemy_tools.importing.service import (Answer, Log, Looked, ServiceRules, demand_of, nested, one_of, refuse_wild_tuplesets,
-                                               text_or_none)
+                                               text_or_none, tuplesets_of)
 from new_enemy_tools.importing.shapes import (ID, LABEL, NULL, PART, REPLY, REST, STAMP, TEXT, TIME, USER_RELATION, WHOLE, Field, Form, Said, field,
                                               form, needed)
 from new_enemy_tools.importing.simple_yaml import beside, is_yaml, read_yaml
@@ -308,10 +309,14 @@ class OpenFgaLog(Log):
             self.refusals.refuse(*self.goes_on, "the base state goes on behind this page, which has a `continuation_token`: give all pages of Read")
         refuse_missing(lines, skew is not None, self.base_at is not None, self.refusals)
         self.refuse_unseen(lines)
-        # Of a call the service does not say which changes are its; where the log has any, it has all of what it shows.
-        ends = unshown(lines, self.base_at is not None, self.refusals) if lines.facts.has_calls else None
-        lines = self.with_calls(lines, lambda row: None)
-        first = len(self.rules.others) + 1
+        ends, first = None, len(self.rules.others) + 1
+        if lines.facts.has_calls and any(True for _ in lines.writes()):
+            # Of a call the service does not say which changes are its; where the log has any, it has all of what it shows.
+            ends = unshown(lines, self.base_at is not None, self.refusals)
+            lines, count = without_calls(lines, Indexer(tuplesets_of(self.rules.event), self.HAS_PLACES))
+            self.refusals.passed[self.CALL_KNOWN] += count
+        else:
+            lines = self.with_calls(lines, lambda row: None)
         base = self.base_at or Moment(None, None, "the beginning")
         return placed(lines, base, Given(self.models, first, self.apart), skew, self.refusals, ends)
 

@@ -287,23 +287,22 @@ class Lines:
         else:
             yield from map(self._line, found)
 
-    def _among(self) -> Iterator[Row]:
-        """The lines as rows, but for checks in columns."""
-        for batch in self.spool.batches():
-            found = found_in(batch)
-            yield from (row for _, row in found.among()) if isinstance(found, Packed) else found
-
     def events(self) -> Iterator[Union[Event, WriteRow]]:
         """Those of the lines that are no checks; writes as their rows."""
-        for row in self._among():
-            if row[0] == "write":
-                yield WriteRow._make(row)
-            elif row[0] == "rules":
-                yield self.rules[row[1]]
+        for batch in self.spool.batches():
+            found = found_in(batch)
+            for row in (row for _, row in found.among()) if isinstance(found, Packed) else found:
+                if row[0] == "write":
+                    yield WriteRow._make(row)
+                elif row[0] == "rules":
+                    yield self.rules[row[1]]
 
     def calls(self) -> Iterator[WriteRow]:
-        """The writes that calls say which made them."""
-        return (WriteRow._make(row) for row in self._among() if row[0] == CALL)
+        """The writes that calls say which made them; in a block such rows are taken by themselves."""
+        for batch in self.spool.batches():
+            found = found_in(batch)
+            rows = [one.row for one in found.head.odd] if isinstance(found, Packed) else found
+            yield from (WriteRow._make(row) for row in rows if row[0] == CALL)
 
     def writes(self) -> Iterator[WriteRow]:
         """The writes behind the base state."""
