@@ -159,6 +159,16 @@ class OfOtherCommands(LogCase):
             self.assertEqual(self.refused(*words, "--from-empty", "log"), ["log:1: %s%s" % (said, hint)])
 
 
+    def test_spans_are_refused(self):
+        """Whatever their status says, they are no call that failed."""
+        self.put("schema.zed", SCHEMA % VIEW)
+        for line in ({"resourceSpans": [{"scopeSpans": [{"spans": [{"name": "Check"}]}]}]}, {"name": "Check", "traceId": "1", "status": {"code": 2}},
+                     {"name": "Check", "traceId": "1", "status": {"code": "Error"}, "attributes": {"allowed": True}}):
+            self.put("log", [line])
+            self.assertEqual(self.refused("spicedb", "--schema", "schema.zed", "--from-empty", "log"), [
+                "log:1: neither a response of Watch nor a check with its `request`"])
+
+
 class SpiceDb(LogCase):
     def words(self, *lines, schema=SCHEMA % VIEW):
         self.put("schema.zed", schema)

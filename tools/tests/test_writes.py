@@ -102,9 +102,9 @@ class SpiceDb(Case):
 
     def test_what_a_status_says(self):
         asked = {"request": self.check(1)["request"]}
-        fine = [self.check(1, status=status) for status in ("OK", 200, "200 OK", {"code": 0}, {"code": "OK"})]
+        fine = [self.check(1, status=status) for status in ("OK", 200, "200 OK", {"code": 0}, {"code": "OK"}, {"code": "Ok"})]
         failed = [{**asked, "status": status} for status in ("UNAVAILABLE", "2", "503 late", {"code": 14})]
-        self.assertEqual(self.report(watch(1, update("user:a")), *fine, *failed), "entries 5\nfindings 0\nverdict clean\n")
+        self.assertEqual(self.report(watch(1, update("user:a")), *fine, *failed), "entries 6\nfindings 0\nverdict clean\n")
         self.assertEqual(self.said.count("failed request"), 4)
         for status in "InvalidArgument", "Code(17)", "NOT_FOUND", "failed", "404":
             self.report(watch(1, update("user:a")), {**asked, "status": status})

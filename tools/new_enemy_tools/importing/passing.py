@@ -20,11 +20,16 @@ def failure_of(value: object, decides: Iterable[str]) -> Optional[str]:
     response = get(value, "response")
     if any(get(response, key) is not None for key in decides):
         return None
-    status = get(value, "status")
+    # Other things than calls, as spans, have a status of another kind.
+    status = get(value, "status") if get(value, "request") is not None or get(value, "method") is not None else None
+    code = get(status, "code")
     if isinstance(status, int) and status >= 400:
         return "failed request (%d)" % status
-    if isinstance(status, str) and _says_failure(status) or get(status, "code") not in (None, 0, "OK"):
-        return _failed(status if isinstance(status, str) else get(status, "code"))
+    for said in (status, code):
+        if isinstance(said, str) and _says_failure(said):
+            return _failed(said)
+    if code and not isinstance(code, str):
+        return _failed(code)
     for holder in (value, response):
         error = get(holder, "error")
         if error:
