@@ -11,8 +11,9 @@ Of SpiceDB there is no store, and each check says by which token it was answered
         answer = client.CheckPermission(...)
         asked.reply, asked.snapshot = answer.permissionship == 2, answer.checked_at.token
 
-Each process has a file of its own in the folder. `ne record --changes-only` records the changes meanwhile, and `ne join` puts both
-together; docs/RECORDING.md has the format. What fails here fails no request: it is counted on the next line that can be written.
+Each process has a file of its own in the folder, so make `Events` behind a fork. `ne record --changes-only` records the
+changes meanwhile, and `ne join` puts both together; docs/RECORDING.md has the format. What fails here fails no request:
+it is counted on the next line that can be written.
 """
 import contextlib
 import json
@@ -57,7 +58,8 @@ class Events:
             thing, who = object.split(":", 1), user.split(":", 1)
             line = {"event": "asked", "began": _text(began), "ended": _text(ended), "goal": [*thing, relation, *who], "reply": one.reply,
                     "newest": newest, "saves": saves, "shows": shows, "model": model, "token": token, "snapshot": one.snapshot}
-            self._tell(line, began, ended, one.snapshot is not None or self.service == "openfga")
+            # Where the clock went back it is not known when the check was asked.
+            self._tell(line, began, ended, began <= ended and (one.snapshot is not None or self.service == "openfga"))
 
     def close(self):
         """Says that all was told; a file without that is one of a process that was killed."""
@@ -69,9 +71,9 @@ class Events:
         with self.lock:
             try:
                 if not is_whole:
-                    raise OSError("no snapshot")
+                    raise OSError("no snapshot, or no time")
                 if self.lost:
-                    self._write({"event": "lost", "from": _text(self.since), "to": _text(ended), "count": self.lost})
+                    self._write({"event": "lost", "from": _text(min(self.since, ended)), "to": _text(max(self.since, ended)), "count": self.lost})
                     self.lost = 0
                 self._write(line)
                 self.count += 1

@@ -1,5 +1,6 @@
 """What services and their tools print: calls that answer many questions, store files, and lines of other tools."""
 import json
+import os
 
 from new_enemy_tools.importing import causes
 from new_enemy_tools.importing.located import Malformed
@@ -17,6 +18,10 @@ def key(user, thing="doc:1", relation="viewer"):
 
 
 class CallsCase(Case):
+    def forget(self):
+        for name in "trace.jsonl", "ids.jsonl":
+            os.remove(self.path(name))
+
     def goals(self):
         """The goals of the trace with their replies, by the names of the table."""
         users = [row["id"] for row in self.rows("ids.jsonl")]
@@ -44,8 +49,33 @@ class OpenFga(CallsCase):
         self.assertIn("verdict clean", self.audited())
         del results["a"]
         words = self.words({"request": {"checks": checks[:1]}, "response": {"result": results}, "snapshot": 2})
+        # The other three are decisions on what nobody asked.
         self.assertEqual(self.unaudited(*words), ["not audited: %s, first at log:3: doc:1#viewer@user:a" % causes.UNREADABLE,
-                                                  "not audited 1: %s" % causes.UNREADABLE])
+                                                  "not audited 4: %s" % causes.UNREADABLE])
+
+    def test_one_of_many_that_cannot_be_read_costs_no_other(self):
+        checks = [key("user:%s" % name) | {"correlation_id": name} for name in "abc"]
+        results = {name: {"allowed": name != "c"} for name in "abc"}
+        odd = {"tuple_key": {"user": "anne", "relation": "viewer", "object": "doc:1"}, "correlation_id": "a"}
+        batch = {"request": {"checks": [odd, *checks[1:]]}, "response": {"result": results}, "snapshot": 2}
+        objects = {"request": {"type": "doc", "relation": "viewer", "user": "user:a"}, "response": {"objects": ["doc:1", "doc", 7]}, "snapshot": 2}
+        self.assertEqual(self.struck(*self.words(batch, objects)), [
+            "log:%d: %s: one of several of this line" % (line, causes.UNREADABLE) for line in (3, 4, 4)])
+        self.assertEqual(self.goals(), ["doc:1#viewer@b true", "doc:1#viewer@c false", "doc:1#viewer@a true"])
+        self.assertEqual(self.audited(), "entries 3\nfindings 0\nverdict clean\n")
+
+    def test_a_listed_user_that_cannot_be_read_is_not_one_that_nobody_let_in(self):
+        """A right list would be a wrong reply."""
+        def listed(*users, **asked):
+            request = {"object": {"type": "doc", "id": "1"}, "relation": "viewer", "user_filters": [{"type": "user"}], **asked}
+            return {"request": request, "response": {"users": list(users)}, "snapshot": 2}
+        good = {"object": {"type": "user", "id": "b"}}
+        odd = ({}, None, "user:a", {"object": {"type": "user"}}, {"object": {"type": 7, "id": "a"}}, {"userset": {"type": "group", "id": "g"}},
+               {"wildcard": {}}, {"User": good})
+        lines = [listed(one) for one in odd] + [listed(good, object={"type": "doc"}), listed(good, *odd)]
+        self.assertEqual(len(self.struck(*self.words(*lines))), 2 * len(odd) + 1)
+        self.assertEqual(self.audited(), "entries 1\nfindings 0\nverdict clean\n")
+        self.assertEqual(self.goals(), ["doc:1#viewer@b true"])
 
     def test_lists(self):
         objects = {"request": {"type": "doc", "relation": "viewer", "user": "user:a"}, "response": {"objects": ["doc:1", "doc:2"]},
@@ -57,6 +87,9 @@ class OpenFga(CallsCase):
         self.assertEqual(said[0], "passed over 1: call that found nothing")
         self.assertEqual(self.goals(), ["doc:1#viewer@a true", "doc:2#viewer@a true", "doc:1#viewer@b true"])
         self.assertEqual(self.audited().splitlines()[:2], ["line 6: F10 wrong reply", "line 7: F10 wrong reply"])
+        broken = objects | {"response": [{"result": {"object": "doc:1"}}, {"error": {"grpc_code": 4, "message": "late"}}]}
+        self.assertIn("passed over 1: failed request (late)\n", self.imported(*self.words(broken)))
+        self.assertEqual(self.goals(), ["doc:1#viewer@a true"])
 
     def test_users_that_are_none(self):
         users = {"request": {"object": {"type": "doc", "id": "1"}, "relation": "viewer", "user_filters": [{}]}, "response": {"users": [
@@ -69,6 +102,19 @@ class OpenFga(CallsCase):
             "check of a userset as the user, first at log:3: doc:1#viewer@group:g#member",
             "check that can't be read, first at log:5: `users` is no list", "contextual tuples, first at log:4: doc:1#viewer@user:b")])
         self.assertEqual(len(said), 8)
+
+    def test_a_version_is_of_one_object(self):
+        """Of another object nobody saved it, and a right caller would be one that shows an unknown version."""
+        saves = {"request": key("user:a"), "response": {"allowed": True}, "snapshot": 2, "content": {"version": "v", "token": 2}}
+        def batch(*things):
+            checks = [key("user:a", thing) | {"correlation_id": thing} for thing in things]
+            return {"request": {"checks": checks}, "response": {"result": {thing: {"allowed": thing == "doc:1"} for thing in things}}, "snapshot": 2}
+        shown = {"version": "v", "token": 2}
+        self.assertEqual(self.struck(*self.words(saves, batch("doc:1", "doc:2") | shown)), [
+            "log:4: %s: a `version` is of one object, and this line asks of several" % causes.UNREADABLE] * 2)
+        self.forget()
+        self.imported(*self.words(saves, batch("doc:1", "doc:2"), batch("doc:1") | shown))
+        self.assertEqual(self.audited(), "entries 4\nfindings 0\nverdict clean\n")
 
     def test_a_content_check_asks_one_question(self):
         line = {"request": {"checks": [key("user:a") | {"correlation_id": "1"}, key("user:b") | {"correlation_id": "2"}]},
@@ -131,6 +177,38 @@ class SpiceDb(CallsCase):
         self.assertEqual(said[:2], ["passed over 1: call that found nothing", "not audited: conditional permission, first at log:5: doc:1#view@user:a"])
         self.assertEqual(self.goals(), ["doc:1#view@a true", "doc:2#view@a true", "doc:1#view@b true"])
         self.assertEqual(self.audited().splitlines()[0], "line 5: F10 wrong reply")
+        told = "the line has no response of the lookup: a list is empty where it found nothing"
+        for line in resources, subjects:
+            for bare in {"request": line["request"]}, line | {"response": None}:
+                self.assertEqual(self.struck(*self.words(bare)), ["log:2: %s: %s" % (causes.UNREADABLE, told)])
+        broken = [line | {"response": [*(line["response"] if isinstance(line["response"], list) else [line["response"]]), {"error": {"code": 4}}]}
+                  for line in (resources, subjects)]
+        self.assertIn("passed over 2: failed request (4)\n", self.imported(*self.words(*broken)))
+        self.assertEqual(self.goals(), ["doc:1#view@a true", "doc:2#view@a true", "doc:1#view@b true"])
+        odd = resources | {"response": [*resources["response"], {"lookedUpAt": at, "resourceObjectId": 7}]}
+        self.assertEqual(self.struck(*self.words(odd)), ["log:2: %s: one of several of this line" % causes.UNREADABLE])
+
+    def test_bulk_checks_that_have_no_answer(self):
+        items = [{"resource": thing("doc:1"), "permission": "view", "subject": {"object": thing("user:" + user)}} for user in "abc"]
+        pairs = [{"request": item, "item": {"permissionship": "PERMISSIONSHIP_HAS_PERMISSION"}} for item in items[:2]]
+        for given, count in ((pairs, 1), (pairs[:1], 2), ([], 3)):
+            line = {"request": {"items": items}, "response": {"checkedAt": {"token": token_text(5)}, "pairs": given}}
+            self.assertEqual(len(self.struck(*self.words(line))), count)
+            self.assertEqual(self.audited(), "entries %d\nfindings 0\nverdict clean\n" % len(given))
+        line["response"]["pairs"] = [{"request": {}, "item": {}}, *pairs, {"request": items[2], "error": {"code": 3}}]
+        self.assertEqual(len(self.struck(*self.words(line))), 1)
+        self.assertEqual(self.audited(), "entries 2\nfindings 0\nverdict clean\n")
+
+    def test_calls_of_the_experimental_service(self):
+        """What loads tuples says nothing of them; others decide nothing."""
+        def call(name):
+            return {"request": {"permission": "view"}, "response": {}, "method": "/authzed.api.v1.ExperimentalService/" + name}
+        words = self.words(*map(call, ("BulkImportRelationships", "BulkExportRelationships", "DependentRelations", "ComputablePermissions")))
+        self.assertEqual(self.imported(*words).count("passed over 1: other call"), 4)
+        self.forget()
+        self.put("log", [call("BulkImportRelationships"), zed_check()])
+        refused, = self.refused(*words)
+        self.assertTrue(refused.startswith("log:1: this BulkImportRelationships wrote, and no line of the log says all of what"), refused)
 
     def test_events_of_an_audit_log(self):
         check = zed_check()

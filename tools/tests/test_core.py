@@ -240,7 +240,8 @@ class Refusals(CoreCase):
         self.assertEqual(self.audited(), "line 3: F6 unknown version\nentries 1\nfindings 1\nverdict dirty\n")
 
     def test_shapes_of_events(self):
-        bad = [{"event": "no"}, [], write("1"), write(1, ["doc"]), write(1, base=True, remove=[rel()]), write(1) | {"add": 7},
+        bad = [{"event": "no"}, [], write("1"), write(1, ["doc"]), write(1, base=True, remove=[rel()]),
+               *(write(1) | {"add": one} for one in (7, {}, "", False)), write(1) | {"remove": 0},
                check(-1), check(1, "yes"), check(1, goal=rel(user_relation="x")), check(1, version=1), check(1, token="x"),
                check(1) | {"file": 7}, {"event": "rules"}, {"event": "rules", "namespaces": [{"name": "a"}]},
                {"event": "rules", "namespaces": [{"name": "a", "relations": [1]}]},
@@ -250,7 +251,7 @@ class Refusals(CoreCase):
                {"event": "rules", "namespaces": [{"name": "a", "relations": [{"name": "b", "rewrite": {"computed": "c"}}]}]}]
         wanted = ["`event` is none of rules, write, check, content"] * 2 + [
             "`revision` is no whole number", "add[0] is no list of 5 or 6 texts", "a base state removes nothing",
-            "`add` is no list", "`snapshot` is no whole number", "`reply` is neither true nor false",
+            *["`add` is no list"] * 4, "`remove` is no list", "`snapshot` is no whole number", "`reply` is neither true nor false",
             "`goal` is no list of 5 texts", "`version` is no text", "`token` is no whole number",
             "`file` is no text or `line` no whole number", "`namespaces` is no list", "namespaces[0] has no name or no relations",
             "a relation of namespaces[0] has no name", "namespace a stands twice", "relation a#b stands twice",

@@ -36,9 +36,9 @@ class Demands(Case):
         return self.findings("openfga", "--model", "model.json", "--from-empty", "log")
 
     def test_openfga(self):
-        for consistency in "HIGHER_CONSISTENCY", 200:
+        for consistency in "HIGHER_CONSISTENCY", 200, 200.0:
             self.assert_demands(lambda *at: self.openfga(consistency, *at), lambda *at: self.openfga(None, *at))
-        for consistency in "MINIMIZE_LATENCY", 100, "UNSPECIFIED", 0:
+        for consistency in "MINIMIZE_LATENCY", 100, 1e2, "UNSPECIFIED", 0, -0.0:
             self.assertEqual(len(self.openfga(consistency, 2, 3)), 2)
 
     def test_openfga_between_two_places(self):
@@ -47,9 +47,10 @@ class Demands(Case):
 
     def test_a_consistency_that_the_service_does_not_have(self):
         self.put("model.json", test_openfga.MODEL % test_openfga.THIS)
-        self.put("log", [test_openfga.change("user:a"), *(test_openfga.check(request={"consistency": one}) for one in ("BEST", 7, True, []))])
+        self.put("log", [test_openfga.change("user:a"), *(test_openfga.check(request={"consistency": one}) for one in ("BEST", 7, 200.5, "200", 1e300, True, []))])
         self.assertEqual(self.struck("openfga", "--model", "model.json", "--from-empty", "log"), [
-            "log:%d: check that can't be read: unknown consistency %s" % (line, shown) for line, shown in enumerate(("'BEST'", "7", "True", "[]"), 2)])
+            "log:%d: check that can't be read: unknown consistency %s" % (line, shown) for line, shown in enumerate(
+                ("'BEST'", "7", "200.5", "'200'", "1e+300", "True", "[]"), 2)])
 
     def spicedb(self, consistency, *snapshots, revision=lambda at: at, own=lambda at: at):
         self.put("schema.zed", test_spicedb.SCHEMA % test_spicedb.VIEW)

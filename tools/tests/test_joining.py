@@ -253,6 +253,16 @@ class Folders(Case):
             file.write("{}\n")
         self.assertEqual(self.run_process("join", "--out", "all", "a", "b").returncode, 2)
 
+    def test_lines_that_are_no_events(self):
+        """Of a key that stands twice nobody knows which value was meant."""
+        self.log("a", *lines()[1:])
+        head = '{"event":"own","format":1,"service":"openfga","store":"S"}\n'
+        for odd in ('{"event":"over","asked":0,"asked":0}', '{"event":"over","asked":NaN}', '{"event":%s}' % ("[" * 100_000), "{}", "[]", "over", "null",
+                    '{"event":7}', '{"event":["over"]}'):
+            self.put("own", head + odd + "\n")
+            run = self.run_tool("join", "--out", "all", "a", "own")
+            self.assertEqual((run.returncode, run.stderr), (2, "own:2: no line of a recorder's log\n"))
+
     def test_usage(self):
         self.log("a", *lines()[1:])
         self.assertEqual(self.run_process("join", "--out", "all", "a", "a").returncode, 3)

@@ -99,6 +99,17 @@ class TightenedModels(Case):
         self.assertIn("passed over 2: stored tuple that no model takes, so that no check sees it\n", self.imported(*words))
         self.assertEqual(self.audited(), "entries 2\nfindings 0\nverdict clean\n")
 
+    def test_a_model_that_was_refused_is_never_in_force(self):
+        wide, tight = model(["user", "group#member"], "wide"), model(["user"], "")
+        call = {"request": {key: tight[key] for key in ("schema_version", "type_definitions")}}
+        log = MEMBER, VIEWER, check(at=2), check(at=1, allowed=False)
+        for failed in ({"response": {"code": "invalid_authorization_model", "message": "no"}}, {"error": {"code": 3}}, {"response": {}, "status": 400}):
+            self.assertEqual(self.report(wide, *log[:2], {**call, **failed}, *log[2:]), [])
+            self.assertIn("passed over 1: failed request", self.said)
+        self.forget()
+        self.assertEqual(self.refused(*self.words(wide, *log, call)), [
+            "log:5: the line of this WriteAuthorizationModel has no response, so that it is not known whether the model came into force"])
+
     def test_a_model_without_an_id_is_one_of_the_log(self):
         first = {key: value for key, value in model(["user"], "").items() if key != "id"}
         log = change("user:a"), check(at=1, request=of("one")), check(at=1, request=of("one"))

@@ -67,7 +67,7 @@ class LeftOut(CoreCase):
         """A line of no kind, and a mistyped key."""
         self.put("model.json", MODEL % THIS)
         good = [change("user:a"), fga_check()]
-        for line in ({"hello": 1}, fga_check(verison="v"), fga_check(content={"verison": "v"})):
+        for line in (None, {"hello": 1}, fga_check(verison="v"), fga_check(content={"verison": "v"})):
             self.put("log", good + [line])
             status, said = self.run_import("openfga", "--model", "model.json", "--from-empty", "--skip-unmapped", "log")
             self.assertEqual((status, said.splitlines()[-1]), (2, "refused 1"))

@@ -237,6 +237,20 @@ class Places(Case):
             "log:11: check that can't be read: `snapshot` is no place in the changes feed and no timestamp",
             "log:12: check that can't be read: `snapshot` is no place in the changes feed and no timestamp"])
 
+    def test_a_base_state_of_which_the_last_page_is_missing(self):
+        def page(user, ends):
+            return {"tuples": [{"key": change(user)["tuple_key"], "timestamp": "2023-01-01T00:00:00Z"}], "continuation_token": ends}
+        words = ("openfga", "--model", "model.json", "--base", "one", "--base", "two", "--base-at", "7", "log")
+        self.put("log", [check(at=7), check("user:b", at=7)])
+        self.put("one", [page("user:a", "more")])
+        self.put("two", [page("user:b", "")])
+        self.assertIn("checks 2", self.imported(*words))
+        for name in "trace.jsonl", "ids.jsonl":
+            os.remove(self.path(name))
+        self.put("two", [page("user:b", "still more")])
+        self.assertEqual(self.refused(*words), [
+            "two:1: the base state goes on behind this page, which has a `continuation_token`: give all pages of Read"])
+
     def test_places_go_on_behind_a_base_state(self):
         self.put("base.json", {})
         words = ("--base", "base.json", "--base-at", "7")

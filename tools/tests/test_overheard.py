@@ -84,6 +84,18 @@ class OfSpiceDb(Case):
         self.assertEqual(sorted(row["reason"] for row in made if row["event"] == "unmapped"), sorted([
             causes.UNREADABLE, "a snapshot of PostgreSQL, which only ne import spicedb can place", causes.CONTEXT_OF_CAVEATS, causes.CONDITIONAL]))
 
+    def test_values_that_no_service_writes(self):
+        """One such check costs no other its place."""
+        def fresh(one):
+            return {**ASKED, "consistency": {"Requirement": {"AtLeastAsFresh": {"token": one}}}}
+        odd = [fresh(one) for one in (7, {"x": 1}, "x", base64.b64encode(b"\x08\x05\x20\x05").decode())]
+        odd += [{**ASKED, "resource": {**ASKED["resource"], part: one}} for part in ("object_type", "object_id") for one in ([], {"x": 1}, 7)]
+        rows = [row for number, one in enumerate([*odd, ASKED]) for row in (payload(number, 5, one, content={"version": "v"} if one in odd[4:] else None),
+                                                                           payload(number, 6, told(1)))]
+        made, _ = joined(TOKENS, rows)
+        self.assertEqual([row["event"] for row in made if row["event"] in ("check", "content", "unmapped")].count("unmapped"), len(odd))
+        self.assertEqual([row["goal"][1] for row in made if row["event"] == "check"], ["d"])
+
     def test_what_is_refused(self):
         check = [payload(1, 5, ASKED), payload(1, 6, told(1))]
         for rows, said in (([{key: one for key, one in check[0].items() if key != "time"}], "heard:1: the line has no `time` of RFC 3339"),
@@ -110,8 +122,13 @@ class Parts(Case):
         self.assertEqual(self.places(joined(rows, [logged(15)])[0]), [[0, 1]])
 
     def test_seconds_since_1970(self):
-        made, _ = joined(log((10, "a")), [logged(0, timestamp=nanoseconds(at(15)) / 1e9)])
-        self.assertEqual(self.places(made), [[1, 1]])
+        seconds = nanoseconds(at(15)) / 1e9
+        for stamp in seconds, int(seconds), seconds + 0.25, "2024-01-01T02:00:15.000+0200":
+            made, _ = joined(log((10, "a")), [logged(0, timestamp=stamp)])
+            self.assertEqual(self.places(made), [[1, 1]])
+        for stamp in True, -1, 1e300, "2024-01-01T02:00:15.000+02":
+            with self.assertRaises(JoinFault):
+                joined(log((10, "a")), [logged(0, timestamp=stamp)])
 
     def test_calls_that_decide_several_things(self):
         batch = {"checks": [{"tuple_key": KEY, "correlation_id": "1"}, {"tuple_key": {**KEY, "user": "user:b"}, "correlation_id": "2"}]}
@@ -178,6 +195,7 @@ class Parts(Case):
                 ([logged(15, timestamp=None)], "heard:1: the line has no `timestamp`, as seconds since 1970 or as a time of RFC 3339"),
                 ([logged(15), logged(15, snapshot=1)], "heard:2: a line with `snapshot` has its place already; give the log to ne import openfga"),
                 ([logged(15, {"store_id": None})], "heard:1: the line does not say of which store it is (`store_id`)"),
+                ([logged(15, grpc_method=7)], "heard:1: `method` is no text"),
                 ([{"a": 1}], "heard:1: no line of OpenFGA's log in JSON, and no tap of Envoy's tap filter (`http_buffered_trace`)"),
                 ([logged(15, {"store_id": "T"})], "heard has checks of the store T alone, and the logs are of S"),
                 ([{"http_streamed_trace_segment": {}}], "heard:1: a tap of the kind `http_streamed_trace_segment`; set `streaming: false` in the tap "

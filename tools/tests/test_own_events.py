@@ -7,6 +7,7 @@ from collections import Counter
 from itertools import count
 from unittest import mock
 
+from new_enemy_tools.importing import causes
 from new_enemy_tools.importing.times import nanoseconds, text_of_time
 from new_enemy_tools.recording import own_events
 from new_enemy_tools.recording.joining import Join
@@ -227,6 +228,13 @@ class Parts(Case):
         made = joined(rows, said(*(asked(began, began + 2, model=model) for began in (5, 25) for model in "MN")))
         self.assertEqual(sorted(map(str, self.places(made))), ["[0, 0]", "[1, 1]", OTHER, OTHER])
 
+    def test_a_check_that_is_not_of_one_user_is_counted(self):
+        """As one user it would be one that nobody let in."""
+        goals = [["document", "d", "viewer", "group", "g#member"], ["document", "d", "viewer", "user", "*"], asked(1, 2)["goal"]]
+        made = joined(log((10, "a")), said(*(asked(12, 15, goal=goal, saves="v%d" % number) for number, goal in enumerate(goals))))
+        self.assertEqual(self.places(made), [causes.USER_USERSET, causes.USER_WILDCARD, [1, 1]])
+        self.assertEqual([row.get("version") for row in made if row["event"] == "unmapped"], [["document", "d", "v0"], ["document", "d", "v1"]])
+
     def test_a_process_that_was_killed_or_could_not_write(self):
         lost = {"event": "lost", "from": at(5), "to": at(9), "count": 3}
         made = joined(log((10, "a")), said(lost, asked(12, 15), is_over=False), skew=SECONDS)
@@ -276,6 +284,19 @@ class Library(Case):
             one.reply = True
         made.close()
         self.assertEqual([(row["event"], row.get("count")) for row in self.rows(made.path)], [("own", None), ("lost", 2), ("asked", None), ("over", None)])
+
+
+    def test_a_clock_that_goes_back(self):
+        """It costs the check that was under way, and not the whole file."""
+        made, now = library().Events(self.path("events"), "S"), nanoseconds(at(20))
+        with mock.patch("time.time_ns", side_effect=(now, now - 5 * SECONDS, now - 4 * SECONDS, now - 3 * SECONDS, now)):
+            for _ in range(2):
+                with made.asked("user:a", "viewer", "document:d", newest=True) as one:
+                    one.reply = True
+            made.close()
+        rows = self.rows(made.path)
+        self.assertEqual([(row["event"], row.get("count")) for row in rows], [("own", None), ("lost", 1), ("asked", None), ("over", None)])
+        self.assertEqual([row["event"] for row in joined(log((10, "a")), rows) if row["event"] in ("gap", "check")], ["gap", "check"])
 
 
 class Processes(OpenFga):

@@ -159,6 +159,16 @@ class OfOtherCommands(LogCase):
             self.assertEqual(self.refused(*words, "--from-empty", "log"), ["log:1: %s%s" % (said, hint)])
 
 
+    def test_spans_are_refused(self):
+        """Whatever their status says, they are no call that failed."""
+        self.put("schema.zed", SCHEMA % VIEW)
+        for line in ({"resourceSpans": [{"scopeSpans": [{"spans": [{"name": "Check"}]}]}]}, {"name": "Check", "traceId": "1", "status": {"code": 2}},
+                     {"name": "Check", "traceId": "1", "status": {"code": "Error"}, "attributes": {"allowed": True}}):
+            self.put("log", [line])
+            self.assertEqual(self.refused("spicedb", "--schema", "schema.zed", "--from-empty", "log"), [
+                "log:1: neither a response of Watch nor a check with its `request`"])
+
+
 class SpiceDb(LogCase):
     def words(self, *lines, schema=SCHEMA % VIEW):
         self.put("schema.zed", schema)
@@ -257,7 +267,7 @@ class SpiceDb(LogCase):
 
     def test_a_mistyped_key_among_those_of_the_server_is_refused(self):
         log = [watch(1, update("user:a")), *self.shown("1", 1, content={"version": "v", "token": token_text(1)})]
-        for line, key in (0, "verison"), (1, "verison"), (1, "Version"), (1, "vesion"):
+        for line, key in (0, "verison"), (1, "verison"), (1, "Version"), (1, "vesion"), (1, "verssion"), (0, "versionn"):
             self.assertEqual(self.refused(*self.words(*log, *self.shown("2", line, **{key: "v"}))), [
                 'log:%d: unknown key "%s"; is "version" meant?' % (4 + line, key)])
         self.assertIn("clean", self.report(*log, *self.shown("2", 1, **{"build.version": "1", "specversion": "1", "versions": 1, "context": {}})))
@@ -289,6 +299,7 @@ class SpiceDb(LogCase):
         lookup = {"request": {"resourceObjectType": "doc", "permission": "view", "subject": {"object": thing("user:a")}},
                   "response": {"lookedUpAt": {"token": token_text(1)}, "resourceObjectId": "1", "permissionship": 1}}
         self.assertEqual(self.report(*log, lookup), "entries 2\nfindings 0\nverdict clean\n")
+        self.assertIn("F10 wrong reply", self.report(*log, watch(2, {**one, "operation": 3.0}), self.check(2)))
         for number in 0, 3, 4, True:
             odd = self.check(1) | {"response": {"checkedAt": {"token": token_text(1)}, "permissionship": number}}
             self.assertEqual(len(self.struck(*self.words(*log, odd))), 1)

@@ -8,7 +8,7 @@ from itertools import islice
 from random import Random
 from unittest import mock
 
-from new_enemy_tools.importing import block, carried, core, located
+from new_enemy_tools.importing import block, carried, core, feed, located
 from new_enemy_tools.importing.carried import Blocks, Carrying, step_in
 from new_enemy_tools.importing.printed import steps_of
 from new_enemy_tools.importing.spool import Facts
@@ -68,6 +68,20 @@ class Logs(PrintedCase):
                 self.assertEqual(found, ["F10 wrong reply"] if wrong else [], name)
                 checks = sum(line.startswith('{"kind":"check"') for line in trace.splitlines())
                 self.assertEqual(checks, sum(isinstance(one, Check) and not one.is_content for one in islice(World(1).events(), EVENTS)))
+
+    def test_calls_that_wrote_beside_the_changes(self):
+        """As OpenFGA prints them; what is left of a block without them is still one."""
+        lines = []
+        for line in self.log_of("openfga_log", wrong=100):
+            sides = {}
+            for change in line.get("changes", ()):
+                side = "writes" if change["operation"].endswith("WRITE") else "deletes"
+                sides.setdefault(side, {"tuple_keys": []})["tuple_keys"].append(change["tuple_key"])
+            lines += [*([self.form.printed("Write", sides, {})] if sides else []), line]
+        with mock.patch.object(feed, "_add_block", wraps=feed._add_block) as blocks:
+            status, said, _, _ = self.compare(self.texts(lines))
+        self.assertEqual((status, "other call (Write)" in said, blocks.called), (0, True, True))
+        self.assertEqual(re.findall("F[0-9]+ .*", self.audited()), ["F10 wrong reply"])
 
     def test_hardly_a_line_is_read_in_full(self):
         """But those that teach a shape."""

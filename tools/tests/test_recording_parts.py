@@ -1,11 +1,13 @@
 """The parts of tools/record alone: what reads along with HTTP, the order of a log, its files, and what goes to the keeper."""
 import asyncio
 import errno
+import importlib.util
 import json
 import os
 import socket
 import threading
 import time
+import unittest
 from itertools import chain
 from random import Random
 from unittest import mock
@@ -24,6 +26,7 @@ from new_enemy_tools.recording.sequencer import Commit, Known, Sequencer
 from new_enemy_tools.recording.spicedb import call_of as spicedb_call
 from tests.support import Case
 
+SESSIONS = 300
 ANSWER = b"HTTP/1.1 200 OK\r\nContent-Type: application/json\r\n"
 
 
@@ -96,6 +99,14 @@ class Reading(Case):
             for size in (1, 3, len(data)):
                 with self.subTest(data=data, size=size), self.assertRaises(Strange):
                     read_along(data + b"GET /later HTTP/1.1\r\n\r\n", lambda size=size: size)
+
+    @unittest.skipUnless(importlib.util.find_spec("h11"), "h11 is not installed")
+    def test_no_session_is_read_in_another_way_than_by_h11(self):
+        run = self.run_dev("compare_http", "--sessions", str(SESSIONS))
+        self.assertEqual((run.returncode, "two ways" in run.stdout), (0, False), run.stdout)
+        with mock.patch.object(Head, "length", lambda head: 0):
+            run = self.run_dev("compare_http", "--sessions", "30")
+        self.assertEqual(run.returncode, 1, run.stdout)
 
     def test_first_lines_of_requests(self):
         for first, is_request in ((b"POST /x HTTP/1.1", True), (b"GET /x?a=b HTTP/1.0", True), (b"POST /x HTTP/1.11", False), (b"POST /x HTTP/1.1 ", False),

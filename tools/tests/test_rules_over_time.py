@@ -101,6 +101,15 @@ class SpiceDb(Case):
         self.imported(*self.words(*self.lines(1, 3, 3, 4, 2, 5, 6)))
         self.assertEqual(self.audited(), "entries 7\nfindings 0\nverdict clean\n")
 
+    def test_a_schema_that_was_refused_is_never_in_force(self):
+        request = {"request": {"schema": "definition user {}"}}
+        printed = {"grpc.service": "authzed.api.v1.SchemaService", "grpc.method": "WriteSchema", "requestID": "r"}
+        failed = ({**request, "response": {"code": 3, "message": "no"}}, {**request, "error": {"code": 3}}, {**request, "status": 400},
+                  {**printed, "grpc.request.content": request["request"]}, {**printed, "grpc.code": "InvalidArgument", "message": "finished call"})
+        lines = self.lines(1, 3, 3, 4, 2, 5, 6)
+        self.assertEqual(self.imported(*self.words(*lines[:1], *failed, *lines[1:])).count("failed request"), 3)
+        self.assertEqual(self.audited(), "entries 7\nfindings 0\nverdict clean\n")
+
     def test_postgres(self):
         self.imported(*self.words(*self.lines(revision(10, 10, own=10), revision(12, 12, own=12), revision(13, 13), revision(14, 14),
                                               revision(12, 12), revision(15, 15, own=15), revision(16, 16))))

@@ -25,6 +25,10 @@ class SpiceDb(Case):
         self.said = self.imported(*self.words(*lines))
         return self.audited()
 
+    def forget(self):
+        for name in "trace.jsonl", "ids.jsonl":
+            os.remove(self.path(name))
+
     check = staticmethod(test_spicedb.check)
 
     def test_calls_that_wrote_are_changes(self):
@@ -98,10 +102,21 @@ class SpiceDb(Case):
 
     def test_what_a_status_says(self):
         asked = {"request": self.check(1)["request"]}
-        fine = [self.check(1, status=status) for status in ("OK", 200, "200 OK", {"code": 0}, {"code": "OK"})]
+        fine = [self.check(1, status=status) for status in ("OK", 200, "200 OK", {"code": 0}, {"code": "OK"}, {"code": "Ok"})]
         failed = [{**asked, "status": status} for status in ("UNAVAILABLE", "2", "503 late", {"code": 14})]
-        self.assertEqual(self.report(watch(1, update("user:a")), *fine, *failed), "entries 5\nfindings 0\nverdict clean\n")
+        self.assertEqual(self.report(watch(1, update("user:a")), *fine, *failed), "entries 6\nfindings 0\nverdict clean\n")
         self.assertEqual(self.said.count("failed request"), 4)
+        for status in "InvalidArgument", "Code(17)", "NOT_FOUND", "failed", "404":
+            self.report(watch(1, update("user:a")), {**asked, "status": status})
+            self.assertIn("passed over 1: failed request (%s)\n" % status, self.said)
+
+    def test_a_status_of_which_it_is_not_known_what_it_says(self):
+        """A write that was taken for one that failed would make a stale reply right."""
+        wrote = written(1, update("user:a"))
+        self.assertIn("F10 wrong reply", self.report({**wrote, "status": "Success"}, self.check(1, reply="NO")))
+        self.forget()
+        self.assertEqual(self.refused(*self.words({**wrote, "status": "done"}, self.check(1))), [
+            "log:1: it is not known whether the `status` 'done' says that the call failed: give a number, or gRPC's name of a code"])
 
     def test_a_tuple_of_a_call_that_has_no_form_is_left_out(self):
         bad = written(1, update("user:a", optionalCaveat={"caveatName": "c"}))
@@ -126,6 +141,10 @@ class SpiceDb(Case):
 
 class OpenFga(Case):
     check = staticmethod(test_openfga.check)
+
+    def forget(self):
+        for name in "trace.jsonl", "ids.jsonl":
+            os.remove(self.path(name))
 
     def words(self, *lines):
         self.put("model.json", MODEL % THIS)
@@ -168,13 +187,66 @@ class OpenFga(Case):
             odd = self.write(2, ["user:a"], ["user:c"])
             odd["request"][side][key] = "ignore"
             self.assertEqual(self.refused(*self.words(written, odd, stale)), ["log:2: " + self.UNSEEN])
-            self.assertEqual(self.report(written, odd, change("user:a"), self.check()), "entries 1\nfindings 0\nverdict clean\n")
+            shown = change("user:a"), change("user:b")
+            self.assertEqual(self.report(written, odd, *shown, self.check()), "entries 1\nfindings 0\nverdict clean\n")
             os.remove(self.path("trace.jsonl"))
             os.remove(self.path("ids.jsonl"))
             odd["request"][side][key] = "error"
             self.assertEqual(self.report(written, odd, self.check(at=AT % 1)), "entries 1\nfindings 0\nverdict clean\n")
             os.remove(self.path("trace.jsonl"))
             os.remove(self.path("ids.jsonl"))
+
+    def test_a_write_behind_the_changes_that_they_do_not_show(self):
+        """A reply behind it may be stale, or right by what was written; what is certainly before it is audited."""
+        shown = change("user:a", at=AT % 1), change("user:b", at=AT % 3)
+        for written in self.write(9, ["user:c"]), self.write(9, deletes=["user:a"]):
+            # It was made before it was logged.
+            for later in self.check("user:c", at=AT % 9, allowed=False), self.check("user:c", at=AT % 6), self.check(
+                    at=None, snapshot_between=[1, AT % 7]), self.check(at=1, token=AT % 8):
+                before = self.check(at=2), self.check(at=AT % 3), self.check(at=AT % 5)
+                told, = self.struck(*self.words(*shown, written, *before, later))
+                self.assertTrue(told.endswith("may be behind the Write of log:3, which the changes do not show: read them once more behind it"), told)
+                self.assertEqual(self.audited(), "entries 3\nfindings 0\nverdict clean\n")
+        behind = change("user:c", at=AT % 9)
+        self.assertIn("F10 wrong reply", self.report(*shown, self.write(9, ["user:c"]), behind, self.check("user:c", at=AT % 9, allowed=False)))
+
+    def test_a_write_among_the_changes_that_they_do_not_show_is_refused(self):
+        shown = change("user:a", at=AT % 1), change("user:b", at=AT % 4)
+        told = "this Write is not among the changes, which go on behind its `time`: changes are missing; give all of them as ReadChanges answers them"
+        for written in self.write(2, ["user:c"]), self.write(4, deletes=["user:a"]), self.write(0, ["user:c"]):
+            for stale in self.check("user:c", at=AT % 5, allowed=False), self.check(at=1):
+                self.assertEqual(self.refused(*self.words(*shown, written, stale)), ["log:3: " + told])
+        again = change("user:a", at=AT % 3, operation="DELETE"), change("user:a", at=AT % 5)
+        lines = shown[0], self.write(1, ["user:a"]), self.write(5, ["user:a"]), *again
+        self.assertEqual(self.report(*lines, self.check(at=AT % 5)), "entries 1\nfindings 0\nverdict clean\n")
+        os.remove(self.path("trace.jsonl"))
+        os.remove(self.path("ids.jsonl"))
+        self.assertEqual(self.refused(*self.words(*lines[1:], self.check(at=1))), ["log:1: " + told])
+        # A change that is read twice is one.
+        self.assertEqual(self.refused(*self.words(*lines[:2], *lines[:1], self.write(2, ["user:a"]), again[0], self.check(at=1))), ["log:4: " + told])
+        # Each line of a call may stand twice, and what the base state has may be written before.
+        self.assertEqual(self.report(*lines, *lines[1:3], self.check(at=AT % 5)), "entries 1\nfindings 0\nverdict clean\n")
+        self.put("base.jsonl", [{"key": change("user:c")["tuple_key"]}])
+        words = ["openfga", "--model", "model.json", "--base", "base.jsonl", "--base-at", "0", "log"]
+        self.put("log", [self.write(0, ["user:c"]), *shown, self.check("user:c", at=1)])
+        self.imported(*words)
+        self.assertEqual(self.audited(), "entries 1\nfindings 0\nverdict clean\n")
+
+    def test_a_write_without_a_time_that_the_changes_do_not_show(self):
+        """It may stand anywhere; what the base state has may be written before, or behind all changes."""
+        shown, written = change("user:a", at=AT % 3), self.write(None, ["user:a"])
+        self.assertEqual(self.report(shown, written, self.check(at=AT % 4)), "entries 1\nfindings 0\nverdict clean\n")
+        told, = self.struck(*self.words(shown, written, written, self.check(at=AT % 3), self.check(at=AT % 4)))
+        self.assertIn("log:5: check without one snapshot: snapshot %s may be behind the Write of log:2" % (AT % 4), told)
+        self.forget()
+        gone = self.write(None, deletes=["user:a"])
+        self.assertEqual(self.refused(*self.words(shown, gone, self.check(at=1))), [
+            "log:2: this Write has no `time`, and is not among the changes: read them once more behind it, or give each line of Write its `time`"])
+        self.put("base.jsonl", [])
+        words = ["openfga", "--model", "model.json", "--base", "base.jsonl", "--base-at", "0", "log"]
+        self.put("log", [gone, shown, self.check(at=1), self.check(at=AT % 4)])
+        self.assertEqual(len(self.struck(*words)), 1)
+        self.assertEqual(self.audited(), "entries 1\nfindings 0\nverdict clean\n")
 
     def test_a_write_that_failed_wrote_nothing(self):
         failed = self.write(2, deletes=["user:a"]) | {"response": {"code": "write_failed_due_to_invalid_input", "message": "no"}}

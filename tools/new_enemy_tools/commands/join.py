@@ -4,7 +4,6 @@ Each LOG is the folder of a recorder's log, with all its files; or, beside a log
 application, a file of OpenFGA's own log, or a folder of taps of Envoy. FOLDER is new, and has a log that `ne import events` reads as that of one
 recorder (docs/RECORDING.md). Where anything is refused nothing is written, and the status is 2.
 """
-import json
 import os
 import shutil
 import sys
@@ -137,12 +136,18 @@ def rows_of(sizes: list[tuple[str, int]]) -> Iterator[Row]:
                 size -= len(raw)
                 if size < 0 or not raw.endswith(b"\n"):
                     break
-                try:
-                    value = json.loads(raw)
-                    assert isinstance(value, dict) and isinstance(value["event"], str)
-                except (ValueError, KeyError, AssertionError):
-                    raise JoinFault("%s:%d: no line of a recorder's log" % (path, line)) from None
-                yield Row(path, line, value)
+                yield Row(path, line, value_of(raw, path, line))
+
+
+def value_of(raw: bytes, path: str, line: int) -> Value:
+    """The event of a line; raises JoinFault."""
+    try:
+        value = located.line_value(raw.strip())
+    except ValueError:
+        value = None
+    if not isinstance(value, dict) or not isinstance(value.get("event"), str):
+        raise JoinFault("%s:%d: no line of a recorder's log" % (path, line))
+    return value
 
 
 def write(lines: Iterable[Value], files: LogFiles, folder: str) -> int:

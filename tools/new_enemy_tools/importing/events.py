@@ -256,7 +256,7 @@ def _write(event: Event, value: dict[str, Any]) -> None:
         raise _Fault("`base` is neither true nor false")
     event.base = value.get("base") is True
     for key in ("add", "remove"):
-        listed = value.get(key) or []
+        listed = [] if value.get(key) is None else value[key]
         if not isinstance(listed, list):
             raise _Fault("`%s` is no list" % key)
         getattr(event, key).extend(_relationship(given, "%s[%d]" % (key, place)) for place, given in enumerate(listed))

@@ -4,6 +4,7 @@ from functools import cached_property
 from itertools import accumulate
 from typing import Any, Callable, Iterable, Iterator, NamedTuple, Optional, Union, cast
 
+from new_enemy_tools.importing.called import Unshown
 from new_enemy_tools.importing.causes import NO_ONE_SNAPSHOT, OTHER_MODEL
 from new_enemy_tools.importing.checks import Row
 from new_enemy_tools.importing.events import Entry, Event, Relationship, is_whole
@@ -73,6 +74,8 @@ class Feed:
     """The changes in their order. Those of one timestamp may be one write of the service or several."""
 
     def __init__(self, base: Moment, times: list[int]):
+        # a write from which on the log may lack changes
+        self.ends: Optional[Unshown] = None
         self.first = base.place or 0
         self.base_time = base.time
         self.times = times
@@ -94,6 +97,7 @@ class Feed:
         if moment.place is not None:
             return self._counted(moment.place)
         assert moment.time is not None
+        self._refuse_unshown(moment.time, moment.shown, what)
         if self.base_time is not None and moment.time < self.base_time:
             return -1
         count = bisect_right(self.sorted, moment.time)
@@ -102,6 +106,11 @@ class Feed:
                       % (what, moment.shown))
         return count
 
+    def _refuse_unshown(self, time: Optional[int], shown: str, what: str) -> None:
+        if self.ends is not None and time is not None and time >= self.ends.since:
+            raise Bad("%s %s may be behind the Write of %s:%d, which the changes do not show: read them once more behind it"
+                      % (what, shown, self.ends.file, self.ends.line))
+
     def _counted(self, place: int) -> int:
         if place - self.first > len(self.times):
             raise Bad("place %d is beyond the feed, which ends at place %d" % (place, self.first + len(self.times)))
@@ -109,6 +118,7 @@ class Feed:
 
     def range(self, low: Moment, high: Moment) -> tuple[int, int]:
         """The places from one moment to another; of changes that share a timestamp the first, and the last."""
+        self._refuse_unshown(high.time, high.shown, "`snapshot_between` to")
         start = self.earliest[low.time] if low.time in self.earliest else self.place(low, "`snapshot_between` from")
         end = self.latest[high.time] if high.time in self.latest else self.place(high, "`snapshot_between` to")
         if start > end:
@@ -198,9 +208,10 @@ class Placing:
                                 for name in sorted({self.models.name(model, relation) for model in self.models.used})]
 
 
-def placed(lines: Lines, base: Moment, given: Given, skew: Optional[int], refusals: Refusals) -> Lines:
-    """The lines of a trace for those of a log with these models; those that have a place."""
+def placed(lines: Lines, base: Moment, given: Given, skew: Optional[int], refusals: Refusals, ends: Optional[Unshown] = None) -> Lines:
+    """The lines of a trace for those of a log with these models; those that have a place. From `ends` on changes may be missing."""
     feed, models, places = _changes(lines, base, given, skew, refusals)
+    feed.ends = ends
     for model in models.used:
         if model in given.apart and model not in models.in_force:
             refusals.merge(given.apart[model])

@@ -6,6 +6,7 @@ from typing import Any, Iterator, Optional
 
 from new_enemy_tools.importing import located, openfga_dsl, printed
 from new_enemy_tools.importing.block import When
+from new_enemy_tools.importing.called import unshown, without_calls
 from new_enemy_tools.importing.checks import Look
 from new_enemy_tools.importing.events import EVERY, Event, Line, Relationship, RelationRule, Stamp, put_stamp
 from new_enemy_tools.importing.feed import Moment, asked_of, moment_of, placed, shown_of
@@ -13,10 +14,11 @@ from new_enemy_tools.importing.located import List, line_at, line_of
 from new_enemy_tools.importing.models import Given, said_by
 from new_enemy_tools.importing.openfga_answers import answers_of, relationship_of
 from new_enemy_tools.importing.pages import Page, refuse_missing
+from new_enemy_tools.importing.packed import Indexer
 from new_enemy_tools.importing.reading import Bad, get, spelled
 from new_enemy_tools.importing.refusals import Refusals
 from new_enemy_tools.importing.service import (Answer, Log, Looked, ServiceRules, demand_of, nested, one_of, refuse_wild_tuplesets,
-                                               text_or_none)
+                                               text_or_none, tuplesets_of)
 from new_enemy_tools.importing.shapes import (ID, LABEL, NULL, PART, REPLY, REST, STAMP, TEXT, TIME, USER_RELATION, WHOLE, Field, Form, Said, field,
                                               form, needed)
 from new_enemy_tools.importing.simple_yaml import beside, is_yaml, read_yaml
@@ -273,6 +275,9 @@ class OpenFgaLog(Log):
         # the models of the log, each once; and what was refused of those that were read and never in force, which matters where they are used
         self.models = [rules, *rules.others]
         self.apart: dict[int, Refusals] = {}
+        # of the pages of the base state where the last one stands that has another behind it, while none was the last
+        self.goes_on: Optional[tuple[str, int]] = None
+        self.is_whole = False
 
     @staticmethod
     def read_base(text: str) -> Optional[Moment]:
@@ -300,12 +305,20 @@ class OpenFgaLog(Log):
 
     def placed(self, lines: Lines, skew: Optional[int]) -> Lines:
         self._refuse_stores()
+        if self.goes_on is not None and not self.is_whole:
+            self.refusals.refuse(*self.goes_on, "the base state goes on behind this page, which has a `continuation_token`: give all pages of Read")
         refuse_missing(lines, skew is not None, self.base_at is not None, self.refusals)
         self.refuse_unseen(lines)
-        # Of a call the service does not say which changes are its; where the log has any, it has all.
-        lines = self.with_calls(lines, lambda row: None)
-        first = len(self.rules.others) + 1
-        return placed(lines, self.base_at or Moment(None, None, "the beginning"), Given(self.models, first, self.apart), skew, self.refusals)
+        ends, first = None, len(self.rules.others) + 1
+        if lines.facts.has_calls and any(True for _ in lines.writes()):
+            # Of a call the service does not say which changes are its; where the log has any, it has all of what it shows.
+            ends = unshown(lines, self.base_at is not None, self.refusals)
+            lines, count = without_calls(lines, Indexer(tuplesets_of(self.rules.event), self.HAS_PLACES))
+            self.refusals.passed[self.CALL_KNOWN] += count
+        else:
+            lines = self.with_calls(lines, lambda row: None)
+        base = self.base_at or Moment(None, None, "the beginning")
+        return placed(lines, base, Given(self.models, first, self.apart), skew, self.refusals, ends)
 
     def may_store(self, given: Relationship) -> bool:
         """Which tuples some model takes is known when all models are."""
@@ -315,6 +328,9 @@ class OpenFgaLog(Log):
         """Tuples as Read gives them, pages with `tuples` or one tuple a line; or those of a store file."""
         for line, value in self._store(path) if is_yaml(path) else located.values(path, self.refusals):
             page = value if isinstance(value, list) else get(value, "tuples")
+            if isinstance(get(value, "tuples"), list):
+                self.goes_on = (path, line) if get(value, "continuation_token") else self.goes_on
+                self.is_whole |= not get(value, "continuation_token")
             for one in page if isinstance(page, list) else [value]:
                 event = Event("write", path, line_of(one, line), 0, self.base_at.shown, base=True)
                 if self._put_key(event, one if get(one, "key") is None else get(one, "key"), True):
@@ -375,8 +391,10 @@ class OpenFgaLog(Log):
         request = get(value, "request")
         sides = [("deletes", False), ("writes", True)]
         keys = [(key, live) for side, live in sides for key in get(get(request, side), "tuple_keys") or ()]
-        if not keys or stamp.time is None or any(get(get(request, side), key) not in IN_FULL for side, key in PASSES_OVER):
+        if not keys or any(get(get(request, side), key) not in IN_FULL for side, key in PASSES_OVER):
             return
+        if stamp.time is None:
+            self.refusals.unseen.setdefault("Write", (path, line))
         for place, (key, live) in enumerate(keys):
             event = put_stamp(Event(CALL, path, line_of(key, line), stamp.time, get(value, "time")), stamp, place)
             self._put_key(event, key, live)
@@ -413,9 +431,10 @@ class OpenFgaLog(Log):
         holder = value if content is None else content
         asked = asked_of(value, get(holder, "token"), get(get(value, "request"), "authorization_model_id"))
         version, demanded = text_or_none(get(holder, "version"), "version"), get(get(value, "request"), "consistency")
-        if isinstance(demanded, bool) or not isinstance(demanded, (str, int, type(None))) or demanded not in CONSISTENCY:
+        asks_for_newest = CONSISTENCY[None] if demanded is None else one_of(CONSISTENCY, demanded)
+        if asks_for_newest is None:
             raise Bad("unknown consistency %r" % (demanded,))
-        return Looked(None, shown_of(asked), demand_of(content is None and CONSISTENCY[demanded], version, asked.token), version, asked)
+        return Looked(None, shown_of(asked), demand_of(content is None and asks_for_newest, version, asked.token), version, asked)
 
     def answers(self, value: dict[str, Any]) -> Iterator[Answer]:
         return answers_of(get(value, "request"), get(value, "response"), self.refusals)
@@ -426,6 +445,8 @@ class OpenFgaLog(Log):
 
     def change(self, model: object, value: dict[str, Any], stamp: Stamp, path: str, line: int) -> Iterator[Event]:
         """A model that is in force from here on: that of WriteAuthorizationModel, or one that a recorder names."""
+        if get(value, "request") is not None and get(value, "response") is None:
+            raise Bad("the line of this WriteAuthorizationModel has no response, so that it is not known whether the model came into force")
         rules = ModelReader(path, self.refusals, line).rules(model)
         model_id = get(get(value, "response"), "authorization_model_id")
         if not isinstance(model_id, (str, type(None))):

@@ -7,7 +7,7 @@ from new_enemy_tools.importing.events import EVERY, Relationship
 from new_enemy_tools.importing.passing import failure_of
 from new_enemy_tools.importing.reading import Bad, get
 from new_enemy_tools.importing.refusals import Refusals
-from new_enemy_tools.importing.service import Answer
+from new_enemy_tools.importing.service import UNREAD, Answer, each, streamed
 
 # What a denial may have without its `allowed`.
 SILENT = frozenset(("allowed", "resolution"))
@@ -50,7 +50,7 @@ def answers_of(request: object, response: object, refusals: Refusals) -> Iterato
     elif get(request, "user_filters") is not None:
         yield from _list_users(request, response)
     elif get(request, "type") is not None:
-        yield from _list_objects(request, response)
+        yield from _list_objects(request, response, refusals)
     else:
         yield _answer(request, request, response)
 
@@ -97,38 +97,63 @@ def _listed(response: object, key: str) -> list[Any]:
 
 
 def _batch(request: object, response: object, refusals: Refusals) -> Iterator[Answer]:
-    """One answer that can't be read costs no other."""
-    results = get(response, "result")
-    for check in _list(request, "checks"):
-        found = get(check, "correlation_id")
-        result = results.get(found) if isinstance(results, dict) and isinstance(found, str) else None
+    results, checks = get(response, "result"), _list(request, "checks")
+    results = results if isinstance(results, dict) else {}
+    named = [get(check, "correlation_id") for check in checks]
+    found = [(check, results.get(name) if isinstance(name, str) else None) for check, name in zip(checks, named)]
+    told = []
+    for check, result in found:
         failed = failure_of(result, ("allowed",))
         if failed:
             refusals.pass_over(failed)
-            continue
-        try:
-            answer = _answer(request, check, result)
-        except Bad:
-            answer = Answer(relationship_of(get(check, "tuple_key")), False, causes.UNREADABLE)
-        yield answer
+        else:
+            told.append((check, result))
+    yield from each(told, lambda one: _one_of_many(request, *one))
+    # A decision on what the request does not ask.
+    yield from (UNREAD for name, result in results.items() if name not in named and not failure_of(result, ("allowed",)))
 
 
-def _list_objects(request: object, response: object) -> Iterator[Answer]:
-    """Of a StreamedListObjects the answers stand in a list or one by one, bare or as a `result`."""
-    streamed = [get(one, "result") or one for one in (response if isinstance(response, list) else [response])]
-    if isinstance(response, list) or get(streamed[0], "object") is not None:
-        found = [get(one, "object") for one in streamed]
+def _one_of_many(request: object, check: object, result: object) -> Answer:
+    try:
+        return _answer(request, check, result)
+    except Bad:
+        return Answer(relationship_of(get(check, "tuple_key")), False, causes.UNREADABLE)
+
+
+def _list_objects(request: object, response: object, refusals: Refusals) -> Iterator[Answer]:
+    """Of a StreamedListObjects the answers stand in a list or one by one."""
+    if isinstance(response, list) or get(get(response, "result") or response, "object") is not None:
+        found = [get(one, "object") for one in streamed(response if isinstance(response, list) else [response], refusals)]
     else:
         found = _listed(response, "objects")
-    for thing in found:
-        key = {"object": thing, "relation": get(request, "relation"), "user": get(request, "user")}
-        yield _mapped(relationship_of(key), True, request)
+    yield from each(found, lambda thing: _positive(request, thing, get(request, "user")))
 
 
 def _list_users(request: object, response: object) -> Iterator[Answer]:
-    thing = "%s:%s" % (get(get(request, "object"), "type"), get(get(request, "object"), "id"))
-    for user in _listed(response, "users"):
-        of, userset, every = get(user, "object"), get(user, "userset"), get(user, "wildcard")
-        shown = "%s:%s" % (get(of or userset or every, "type"), "*" if every else get(of or userset, "id"))
-        shown += "#%s" % get(userset, "relation") if userset else ""
-        yield _mapped(relationship_of({"object": thing, "relation": get(request, "relation"), "user": shown}), True, request)
+    thing = _thing(get(request, "object"))
+    yield from each(_listed(response, "users"), lambda user: _positive(request, thing, _user(user)))
+
+
+def _positive(request: object, thing: object, user: object) -> Answer:
+    key = {"object": thing, "relation": get(request, "relation"), "user": user}
+    return _mapped(relationship_of(key), True, request)
+
+
+def _user(given: object) -> str:
+    """A user of a list as a text; raises Bad."""
+    of, userset, every = get(given, "object"), get(given, "userset"), get(given, "wildcard")
+    if every is not None:
+        return _thing({**every, "id": "*"} if isinstance(every, dict) else every)
+    return _thing(of) if userset is None else "%s#%s" % (_thing(userset), _text(userset, "relation"))
+
+
+def _thing(given: object) -> str:
+    """The text of what is told by its type and id; raises Bad."""
+    return "%s:%s" % (_text(given, "type"), _text(given, "id"))
+
+
+def _text(holder: object, key: str) -> str:
+    found = get(holder, key)
+    if not isinstance(found, str):
+        raise Bad("an object or a user has no `%s`" % key)
+    return found

@@ -3,6 +3,7 @@
 Each becomes a line with a `request` and a `response`, as a recorder writes it. The forms of OpenFGA's and SpiceDB's logs are taken from
 their public sources.
 """
+import re
 from datetime import datetime, timezone
 from typing import Any, Iterable, Iterator, NamedTuple, Optional
 
@@ -16,6 +17,7 @@ FINISHED = "finished call"
 TAP, SAID = "http_buffered_trace", ("own", "asked", "lost", "over")
 # The keys of a line of OpenFGA's log, and those of an event, that are read.
 READ = frozenset(("specversion", "data", "type", "raw_request", "raw_response", "grpc_method", "grpc_service", "grpc_code", "timestamp"))
+ZONE = re.compile(r"([+-][0-9]{2})([0-9]{2})$")
 REQUEST_ID = ("requestID", "requestId", "request_id")
 OWN = "line of the service's own log"
 UNTOLD = "the line of this call has no request and no response: run `ne record`, or let the server log both"
@@ -89,10 +91,15 @@ def mistyped(value: Any) -> Iterator[Unread]:
 
 
 def _is_slip(key: str) -> bool:
-    """Whether a key has the letters of one that a recorder adds in another order or case, or all but one of them. Those of servers are only
-    like them, as `context` is like `content`."""
+    """Whether a key has the letters of one that a recorder adds in another order or case, or one letter more or less. Those of servers are
+    only like them, as `context` is like `content`, or `versions`."""
     folded = key.lower()
-    return any(sorted(folded) == sorted(one) or any(folded == one[:at] + one[at + 1:] for at in range(len(one))) for one in ADDED)
+    return any(sorted(folded) == sorted(one) or folded in _without_one(one) or one in _without_one(folded) and folded != one + "s"
+               for one in ADDED)
+
+
+def _without_one(key: str) -> list[str]:
+    return [key[:at] + key[at + 1:] for at in range(len(key))]
 
 
 def _is_health(service: object) -> bool:
@@ -105,10 +112,12 @@ def _filled(found: dict[str, Any]) -> dict[str, Any]:
 
 
 def time_of(stamp: object) -> Optional[str]:
-    """The time of a line of OpenFGA's log, which is a text or seconds since 1970; None where it is neither."""
-    if isinstance(stamp, str) and nanoseconds(stamp) is not None:
-        return stamp
-    if isinstance(stamp, float) and 0 < stamp < 1 << 33:
+    """The time of a line of OpenFGA's log, which is a text, maybe with a zone without its colon, or seconds since 1970, of which a fraction of zero
+    is not printed; None where it is neither."""
+    if isinstance(stamp, str):
+        stamp = ZONE.sub(r"\1:\2", stamp)
+        return None if nanoseconds(stamp) is None else stamp
+    if isinstance(stamp, (int, float)) and not isinstance(stamp, bool) and 0 < stamp < 1 << 33:
         return datetime.fromtimestamp(stamp, timezone.utc).strftime("%Y-%m-%dT%H:%M:%S.%fZ")
     return None
 

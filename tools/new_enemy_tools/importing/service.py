@@ -21,8 +21,8 @@ from new_enemy_tools.rules import places
 
 
 def one_of(table: Mapping[Any, bool], value: object) -> Optional[bool]:
-    """What a name or a number stands for; None where the table does not have it."""
-    return table.get(value) if isinstance(value, (str, int)) and not isinstance(value, bool) else None
+    """What a name or a number stands for, which may have a fraction of zero; None where the table does not have it."""
+    return table.get(value) if isinstance(value, (str, int, float)) and not isinstance(value, bool) else None
 
 
 def text_or_none(value: object, what: str) -> Optional[str]:
@@ -71,6 +71,35 @@ class Answer(NamedTuple):
     goal: Relationship
     reply: bool
     unmapped: Optional[str]
+
+
+# A decision of which it can't be read what it was, and what is told of it.
+MANY = "one of several of this line"
+UNREAD = Answer(Relationship("?", "?", "?", "?", "?"), False, causes.UNREADABLE)
+
+
+def each(asked: list[Any], answer_of: Callable[[Any], Answer]) -> Iterator[Answer]:
+    """What is decided of each; one that can't be read costs no other. Raises Bad where there is no other."""
+    for one in asked:
+        try:
+            answer = answer_of(one)
+        except Bad:
+            if len(asked) == 1:
+                raise
+            answer = UNREAD
+        yield answer
+
+
+def streamed(responses: list[Any], refusals: Refusals) -> list[Any]:
+    """The answers of a call that streams them, each bare or as a `result`; a fault at their end is counted."""
+    found = []
+    for one in responses:
+        failed = None if get(one, "result") is not None else passing.failure_of(one, ())
+        if failed is None:
+            found.append(get(one, "result") or one)
+        else:
+            refusals.pass_over(failed)
+    return found
 
 
 class Looked(NamedTuple):
@@ -255,7 +284,7 @@ class Log:
             except Bad as fault:
                 self.refusals.unread_check(path, line, causes.UNREADABLE, str(fault))
                 continue
-            if value is None:
+            if value is None and given is not None:
                 continue
             stamp = stamp_of(value if isinstance(value, dict) else {}, path, line, self.refusals)
             try:
@@ -273,7 +302,7 @@ class Log:
         elif self.is_write(changes):
             self.refuse_partial(get(value, "request"), changes, stamp, path, line)
             yield from self.writes(changes, stamp, path, line)
-        elif (rules := self.new_rules(value)) is not None:
+        elif (rules := self.new_rules(value)) is not None and passing.failure_of(value, self.DECIDES) is None:
             yield from self.change(rules, value, stamp, path, line)
         else:
             yield from self._call(value, is_check, stamp, path, line)
@@ -358,11 +387,15 @@ class Log:
             self.refusals.unread_check(path, line, causes.UNREADABLE_CONTENT if is_content else causes.UNREADABLE, str(fault))
             return
         snapshot, shown, token, version, asked = looked
-        for place, (goal, reply, unmapped) in enumerate(answers):
-            entry = Entry("check" if content is None else "content", path, line, goal, reply, snapshot, shown, token, version, None,
-                          newest, asked, sequence_of(stamp, place), stamp.time, stamp.clock)
-            if unmapped:
-                self.refusals.unmapped_check(entry, unmapped, entry.told)
+        if version is not None and len({one.goal[:2] for one in answers if one is not UNREAD}) > 1:
+            for _ in answers:
+                self.refusals.unread_check(path, line, causes.UNREADABLE, "a `version` is of one object, and this line asks of several")
+            return
+        for place, answer in enumerate(answers):
+            entry = Entry("check" if content is None else "content", path, line, answer.goal, answer.reply, snapshot, shown, token, version,
+                          None, newest, asked, sequence_of(stamp, place), stamp.time, stamp.clock)
+            if answer.unmapped:
+                self.refusals.unmapped_check(entry, answer.unmapped, MANY if answer is UNREAD else entry.told)
             else:
                 yield entry
 

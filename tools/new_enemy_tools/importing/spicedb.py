@@ -94,7 +94,7 @@ class SpiceDbLog(Log):
     BASE = "token or revision"
     RULES = (b'"schema"',)
     HAS_REVISIONS = True
-    WRITES = ("WriteRelationships", "DeleteRelationships", "ImportBulkRelationships")
+    WRITES = ("WriteRelationships", "DeleteRelationships", "ImportBulkRelationships", "BulkImportRelationships")
     CALL_KNOWN = "other call (WriteRelationships)"
     PARTIAL = ("optionalObjectTypes", "optionalRelationshipFilters")
     GIVE_CHANGES = "give the watch stream, which has each change with its revision"
@@ -113,8 +113,9 @@ class SpiceDbLog(Log):
             "full_revision_metadata.0")))
     OTHERS = {"WriteRelationships": ("request.updates",), "DeleteRelationships": ("response.deletedAt",),
               "ReadRelationships": ("request.relationshipFilter",), "ExpandPermissionTree": ("response.treeRoot",),
-              "ReadSchema": ("response.schemaText",), "ReflectSchema": (), "DiffSchema": (), "ImportBulkRelationships": (),
-              "ExportBulkRelationships": (), "Health": ()}
+              "ReadSchema": ("response.schemaText",), "ReflectSchema": (), "DiffSchema": (), "ComputablePermissions": (),
+              "DependentRelations": (), "ImportBulkRelationships": (), "ExportBulkRelationships": (), "BulkImportRelationships": (),
+              "BulkExportRelationships": (), "Health": ()}
     DECISIONS = frozenset(("CheckPermission", "CheckBulkPermissions", "BulkCheckPermission", "LookupResources", "LookupSubjects"))
 
     def __init__(self, rules: ServiceRules, base_at: Optional[Revision], refusals: Refusals):
@@ -209,7 +210,7 @@ class SpiceDbLog(Log):
 
     def writes(self, value: dict[str, Any], stamp: Stamp, path: str, line: int) -> Iterator[Event]:
         response = get(value, "result") or value
-        updates = get(response, "updates") or []
+        updates = [] if get(response, "updates") is None else get(response, "updates")
         if not isinstance(updates, list):
             raise Bad("`updates` is no list")
         revision = revision_in(get(response, "changesThrough"), "`changesThrough`")

@@ -1,4 +1,5 @@
 """SpiceDB's relationships in JSON, and what the answers of its calls decide."""
+from functools import partial
 from typing import Any, Iterator, Optional
 
 from new_enemy_tools.importing import causes
@@ -6,7 +7,7 @@ from new_enemy_tools.importing.events import EVERY, Relationship
 from new_enemy_tools.importing.passing import failure_of
 from new_enemy_tools.importing.reading import Bad, get
 from new_enemy_tools.importing.refusals import Refusals
-from new_enemy_tools.importing.service import Answer, one_of, text_or_none
+from new_enemy_tools.importing.service import UNREAD, Answer, each, one_of, streamed, text_or_none
 from new_enemy_tools.importing.zedtokens import Older, Revision, read_revision
 
 REPLIES = {"PERMISSIONSHIP_HAS_PERMISSION": True, "PERMISSIONSHIP_NO_PERMISSION": False}
@@ -71,19 +72,31 @@ def revision_at(response: object) -> Revision:
 def answers_of(request: object, response: object, refusals: Refusals) -> Iterator[Answer]:
     """What a CheckPermission, a CheckBulkPermissions, a LookupResources or a LookupSubjects decides; raises Bad."""
     if get(request, "items") is not None:
-        yield from _bulk(response, refusals)
+        yield from _bulk(request, response, refusals)
     elif get(request, "resourceObjectType") is not None:
-        for one in responses_of(response) if response else ():
-            thing = get(request, "resourceObjectType"), get(one, "resourceObjectId")
-            yield _answer(request, {"objectType": thing[0], "objectId": thing[1]}, get(request, "subject"), one, LOOKED_UP)
+        yield from each(_looked_up(response, refusals), partial(_resource, request))
     elif get(request, "subjectObjectType") is not None:
-        for one in responses_of(response) if response else ():
-            found = get(one, "subject") or one
-            subject = {"object": {"objectType": get(request, "subjectObjectType"), "objectId": get(found, "subjectObjectId")},
-                       "optionalRelation": get(request, "optionalSubjectRelation")}
-            yield _answer(request, get(request, "resource"), subject, found, LOOKED_UP)
+        yield from each(_looked_up(response, refusals), partial(_found_subject, request))
     else:
         yield _answer(request, get(request, "resource"), get(request, "subject"), response)
+
+
+def _looked_up(response: object, refusals: Refusals) -> list[Any]:
+    if response is None:
+        raise Bad("the line has no response of the lookup: a list is empty where it found nothing")
+    return streamed(response if isinstance(response, list) else [response], refusals) if response else []
+
+
+def _resource(request: object, found: object) -> Answer:
+    thing = {"objectType": get(request, "resourceObjectType"), "objectId": get(found, "resourceObjectId")}
+    return _answer(request, thing, get(request, "subject"), found, LOOKED_UP)
+
+
+def _found_subject(request: object, one: object) -> Answer:
+    found = get(one, "subject") or one
+    subject = {"object": {"objectType": get(request, "subjectObjectType"), "objectId": get(found, "subjectObjectId")},
+               "optionalRelation": get(request, "optionalSubjectRelation")}
+    return _answer(request, get(request, "resource"), subject, found, LOOKED_UP)
 
 
 def _answer(request: object, resource: object, subject: object, found: object, numbers: tuple[Optional[str], ...] = CHECKED) -> Answer:
@@ -108,20 +121,25 @@ def _answer(request: object, resource: object, subject: object, found: object, n
     return Answer(goal, one_of(REPLIES, said) or False, unmapped)
 
 
-def _bulk(response: object, refusals: Refusals) -> Iterator[Answer]:
-    """One answer that can't be read costs no other."""
-    pairs = get(response, "pairs")
-    if not isinstance(pairs, list):
-        raise Bad("`pairs` is no list")
+def _bulk(request: object, response: object, refusals: Refusals) -> Iterator[Answer]:
+    pairs, items, told = get(response, "pairs"), get(request, "items"), []
+    if not isinstance(pairs, list) or not isinstance(items, list):
+        raise Bad("`pairs` or `items` is no list")
     for pair in pairs:
         failed = failure_of(pair, ("item",))
         if failed and get(pair, "item") is None:
             refusals.pass_over(failed)
-            continue
-        asked = get(pair, "request")
-        try:
-            answer = _answer(asked, get(asked, "resource"), get(asked, "subject"), get(pair, "item"))
-        except Bad:
-            goal = _relationship(_object(get(asked, "resource"), "resource"), str(get(asked, "permission")), _subject(get(asked, "subject")))
-            answer = Answer(goal, False, causes.UNREADABLE)
-        yield answer
+        else:
+            told.append(pair)
+    yield from each(told, _pair)
+    # What was asked and has no pair.
+    yield from [UNREAD] * (len(items) - len(pairs))
+
+
+def _pair(pair: object) -> Answer:
+    asked = get(pair, "request")
+    try:
+        return _answer(asked, get(asked, "resource"), get(asked, "subject"), get(pair, "item"))
+    except Bad:
+        goal = _relationship(_object(get(asked, "resource"), "resource"), str(get(asked, "permission")), _subject(get(asked, "subject")))
+        return Answer(goal, False, causes.UNREADABLE)

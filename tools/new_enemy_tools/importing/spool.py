@@ -297,6 +297,13 @@ class Lines:
                 elif row[0] == "rules":
                     yield self.rules[row[1]]
 
+    def calls(self) -> Iterator[WriteRow]:
+        """The writes that calls say which made them; in a block such rows are taken by themselves."""
+        for batch in self.spool.batches():
+            found = found_in(batch)
+            rows = [one.row for one in found.head.odd] if isinstance(found, Packed) else found
+            yield from (WriteRow._make(row) for row in rows if row[0] == CALL)
+
     def writes(self) -> Iterator[WriteRow]:
         """The writes behind the base state."""
         return (row for row in self.events() if isinstance(row, WriteRow) and not row.base)

@@ -12,8 +12,8 @@ from new_enemy_tools.importing import causes, openfga_answers, passing, printed,
 from new_enemy_tools.importing.openfga import OpenFgaLog
 from new_enemy_tools.importing.reading import Bad, get
 from new_enemy_tools.importing.spicedb import SpiceDbLog
-from new_enemy_tools.importing.spicedb_answers import revision_at
-from new_enemy_tools.importing.service import Answer, content_of, text_or_none
+from new_enemy_tools.importing.spicedb_answers import revision_at, revision_in
+from new_enemy_tools.importing.service import Answer, Log, content_of, text_or_none
 from new_enemy_tools.importing.times import nanoseconds, text_of_time
 from new_enemy_tools.recording.bodies import UNHEARD, body_of
 from new_enemy_tools.recording.core import refuse_headers
@@ -119,17 +119,29 @@ def _of_tokens(call: Call) -> dict[str, Any]:
     if found.number is None:
         raise Bad("a snapshot of PostgreSQL, which only ne import spicedb can place")
     token = call.token if call.save is not None else demanded_by(call.asked)
+    if token is not None and revision_in({"token": token}, "the request's consistency").number is None:
+        raise Bad("a token of PostgreSQL, which only ne import spicedb can place")
     return {"newest": get(get(call.asked, "consistency"), "fullyConsistent") is True, "snapshot": found.shown, "token": token}
 
 
 def _saved(call: Call, answer: Optional[Answer]) -> dict[str, Any]:
     """The version that a call may have saved which is not taken."""
-    thing = None if answer is None else answer.goal[:2]
-    if thing is None and call.save is not None:
+    thing = [] if answer is None else [*answer.goal[:2]]
+    if answer is None and call.save is not None:
         found, resource = get(get(call.asked, "tuple_key"), "object"), get(call.asked, "resource")
-        thing = tuple(found.split(":", 1)) if isinstance(found, str) and ":" in found else (  # type: ignore[assignment]
-            None if resource is None else (get(resource, "objectType"), get(resource, "objectId")))
-    return {} if not call.save or thing is None else {"version": [*thing, call.save]}
+        thing = found.split(":", 1) if isinstance(found, str) else [get(resource, "objectType"), get(resource, "objectId")]
+    is_known = len(thing) == 2 and all(isinstance(one, str) for one in thing)
+    return {"version": [*thing, call.save]} if call.save and is_known else {}
+
+
+def _passed(row: Row, value: Value, log: type[Log]) -> Optional[str]:
+    """What is counted of a line that decides nothing; raises JoinFault."""
+    try:
+        if passing.failure_of(value, log.DECIDES) is not None:
+            return FAILED
+        return None if passing.method_of(value) in log.DECISIONS else OTHER
+    except Bad as fault:
+        raise _fault(row, str(fault)) from None
 
 
 def _named(row: Row, value: Value) -> tuple[Optional[str], Optional[str], Optional[str]]:
@@ -178,10 +190,9 @@ class Payloads:
             if printed.REQUEST in row.value:
                 self.began[row.line] = at
             return None
-        if passing.failure_of(value, SpiceDbLog.DECIDES) is not None:
-            return FAILED
-        if passing.method_of(value) not in SpiceDbLog.DECISIONS:
-            return OTHER
+        passed = _passed(row, value, SpiceDbLog)
+        if passed is not None:
+            return passed
         save, version, token = _named(row, value)
         why = causes.UNREADABLE if asked is None else None
         began, ended = at if asked is None else self.began[asked[1]], at + (CUT if "." in row.value["time"] else SECOND)
@@ -205,10 +216,9 @@ def _logged(row: Row, took: int) -> Any:
         raise _fault(row, "no line of OpenFGA's log in JSON, and no tap of Envoy's tap filter (`%s`)" % printed.TAP)
     value = printed.unwrapped(given, OpenFgaLog.KEYS)
     _refuse_placed(row, value, "openfga")
-    if passing.failure_of(value, OpenFgaLog.DECIDES) is not None:
-        return FAILED
-    if passing.method_of(value) not in OpenFgaLog.DECISIONS:
-        return OTHER
+    passed = _passed(row, value, OpenFgaLog)
+    if passed is not None:
+        return passed
     ended = nanoseconds(value.get("time"))
     if ended is None:
         raise _fault(row, "the line has no `timestamp`, as seconds since 1970 or as a time of RFC 3339")

@@ -8,8 +8,9 @@ from collections import Counter
 from functools import partial
 from typing import Any, Iterator, NamedTuple, Optional, Sequence, Union
 
+from new_enemy_tools.importing import causes
 from new_enemy_tools.importing.between import STATES
-from new_enemy_tools.importing.events import Relationship, is_whole
+from new_enemy_tools.importing.events import EVERY, Relationship, is_whole
 from new_enemy_tools.importing.times import nanoseconds
 from new_enemy_tools.importing.zedtokens import Older, read_revision
 from new_enemy_tools.keys import unread
@@ -130,6 +131,11 @@ def _number(row: Row, token: str) -> int:
     return found.number
 
 
+def _no_one_user(goal: list[str]) -> Optional[str]:
+    """Why a check is not of one user, if it is not; no service takes these letters in an id."""
+    return causes.USER_USERSET if "#" in goal[4] else causes.USER_WILDCARD if goal[4] == EVERY else None
+
+
 class Said(NamedTuple):
     """A line of an application as a recorder would have written it, behind so many changes of the log; or why it can't be."""
 
@@ -157,7 +163,7 @@ class Placing:
             lost = {"event": "gap", "from": value["from"], "to": value["to"], "reason": LOST, "lost": value["count"], "time": value["to"]}
             return Said(self.known(nanoseconds(value["to"]) or 0), lost)
         began, ended = _read_times(row, "began", "ended")
-        looked = self.looked(row, began, ended)
+        looked = _no_one_user(value["goal"]) or self.looked(row, began, ended)
         is_content = value.get("saves") is not None
         made: Value = {"event": "content" if is_content else "check", "goal": value["goal"], "reply": value["reply"]}
         if value["reply"] or not is_content:
