@@ -67,6 +67,7 @@ KIND is one of
   ring           groups in a circle, and checks that each of many strangers is not in it: for `make`
   wide_make      a rule of many places that compute one relation, and objects in a chain of such rules: for `make`
   nested_make    a rule of many intersections, and objects in a chain of such rules: for `make`
+  parts_make     a rule of many intersections of relations that are read through ten tuplesets, and objects in a chain of such rules: for `make`
   through_make   a rule of many relations through one tupleset, in which 400 usersets are stored, and checks of two such objects in turn: for `make`
   few_make       the same with 60 relations, of which one of the usersets' 250 namespaces declares one: for `make`
   each_declares  as `through_make`, where each of 250 namespaces declares other ones of the relations, and the usersets are of one of them: for `make`
@@ -1011,6 +1012,22 @@ def nested_make(size):
     return given
 
 
+def parts_make(size):
+    """A rule of many intersections of what is read through ten tuplesets, no two alike, and objects in a chain that each read the next one's."""
+    sets = [f"p{k}" for k in range(10)]
+    places = [{"intersection": [{"tuple_to": {"tupleset": sets[k % 10], "computed": "c%x" % (2 * k + j)}} for j in range(2)]}
+              for k in range(min(size // 3, LINE * 8 // 10) // 120)]
+    rule = nested([*places, {"tuple_to": {"tupleset": "parent", "computed": "viewer"}}])
+    given = Input(size, [{"name": "doc", "relations": [*map(relation, [*sets, "parent"]), relation("viewer", rule)]}])
+    given.bytes = len(given.lines[0])
+    k = 0
+    while not given.is_full():
+        given.commit([f"doc:{j}#parent@doc:{j + 1}#parent" for j in range(k, k + 20)])
+        k += 20
+    given.check("doc:0#viewer@7", False, [])
+    return given
+
+
 def many_make(size):
     """One of the usersets is of the namespace that declares what is read, so that each check has to name two folders."""
     names = [f"t{k}" for k in range(max(min(size // 3000, 200), 1))]
@@ -1226,6 +1243,7 @@ KINDS = {
     "ring": ring,
     "wide_make": wide_make,
     "nested_make": nested_make,
+    "parts_make": parts_make,
     "through_make": through_make,
     "few_make": few_make,
     "each_declares": each_declares,
@@ -1251,8 +1269,8 @@ KINDS = {
 }
 
 # Those whose evidence the auditor makes: they have none.
-FOR_MAKE = ("ring", "wide_make", "nested_make", "through_make", "few_make", "each_declares", "unread_through", "late_through", "wide_groups", "many_make", "small_sets",
-            "three_steps", "given_up", "minus_make")
+FOR_MAKE = ("ring", "wide_make", "nested_make", "parts_make", "through_make", "few_make", "each_declares", "unread_through", "late_through",
+            "wide_groups", "many_make", "small_sets", "three_steps", "given_up", "minus_make")
 
 
 def main():

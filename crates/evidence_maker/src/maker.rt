@@ -225,7 +225,7 @@ impl<'t> Maker<'t> {
             alloc,
             asked: AskedRules::new(alloc, trace),
             leaves: Leaves::new(alloc, trace.rules()),
-            rules: WideRules::new(alloc),
+            rules: WideRules::new(alloc, trace.rules()),
         }
     }
 

@@ -17,7 +17,7 @@
 //! memory is that of the cone, or of what was searched, and a look-up among facts goes by their marks. What is stored
 //! in a tupleset is gone over once for all relations that a rule of a cone reads through it, and where many usersets
 //! were stored there, what is dead or declares none of them is not. [`Leaves`] and [`WideRules`] keep what was read of
-//! rules for the next goals.
+//! rules, and which of their parts open them, for the next goals.
 //!
 //! ```text
 //! let mut leaves = Leaves::new(alloc, snapshot.timeline.rules());
@@ -27,6 +27,8 @@
 
 mod cone;
 mod fault;
+mod groups;
+mod kept;
 mod leaves;
 mod needed;
 mod nodes;
@@ -35,13 +37,14 @@ mod runs;
 mod search;
 mod seen;
 mod through;
+mod walks;
 mod wide;
 
 pub use cone::{explore, explore_by};
 pub use fault::ConeFault;
+pub use kept::WideRules;
 pub use leaves::{Leaves, ReadPart};
 pub use needed::Settled;
 pub use premises::{MAX_LINKS, MAX_USERSETS};
 pub use search::Search;
 pub use through::targets;
-pub use wide::WideRules;

@@ -1,11 +1,11 @@
 //! What of a search a goal leans on.
 
 use crate::fault::ConeFault;
-use crate::nodes::{Node, Rule, State};
+use crate::nodes::{Link, Node, Rule, State};
 use crate::search::Search;
-use crate::wide::opening;
 use rewrites::Rewrite;
 use std::alloc::{AllocError, Global};
+use std::collections::BTreeMap;
 use tuple_text::{Fact, SetRef};
 
 /// A fact that holds, by what was settled before; or some that do not, by that and by one another.
@@ -51,7 +51,7 @@ impl<'s, 't> Search<'s, 't> {
     }
 
     /// What was settled of that on which a node leans.
-    fn settled_for(&self, goal: usize) -> Result<Option<Vec<Settled>>, AllocError> {
+    fn settled_for(&mut self, goal: usize) -> Result<Option<Vec<Settled>>, AllocError> {
         let needed = self.needed(goal)?;
         let mut settled = Vec::new(self.alloc);
         let mut failed = Vec::new(self.alloc);
@@ -85,7 +85,7 @@ impl<'s, 't> Search<'s, 't> {
     }
 
     /// The nodes on which one leans, it itself among them.
-    fn needed(&self, goal: usize) -> Result<Needed, AllocError> {
+    fn needed(&mut self, goal: usize) -> Result<Needed, AllocError> {
         let mut needed = Needed {
             is_needed: vec![in self.alloc; false; self.nodes.len()]?,
             todo: Vec::new(self.alloc),
@@ -103,7 +103,7 @@ impl<'s, 't> Search<'s, 't> {
         Ok(needed)
     }
 
-    fn lean(&self, node: Node<'s>, needed: &mut Needed) -> Result<(), AllocError> {
+    fn lean(&mut self, node: Node<'s>, needed: &mut Needed) -> Result<(), AllocError> {
         match node.rule {
             Rule::Few(Rewrite::Inter(_)) if node.state == State::Fails => {
                 self.lean_on(node.from.saturating_add(node.turn), needed)
@@ -111,7 +111,7 @@ impl<'s, 't> Search<'s, 't> {
             Rule::Few(Rewrite::Minus(_, _)) if node.state == State::Fails => {
                 self.lean_on_exclusion(node, needed)
             }
-            Rule::Many(wide) => self.lean_on_parts(node, wide, needed),
+            Rule::Many(wide) => self.lean_on_groups(node, wide, needed),
             _ => {
                 match node.by {
                     Some(read) => needed.add(read),
@@ -144,26 +144,47 @@ impl<'s, 't> Search<'s, 't> {
         }
     }
 
-    /// By the parts on which its rule leans: of one that is open on what opened it, and of one that is shut on all that
-    /// it reads.
-    fn lean_on_parts(
-        &self,
+    /// When what is read by a link opened, before a moment.
+    fn opening(&self, link: Link, moment: usize) -> Option<usize> {
+        let node = self.nodes.get(link.read())?;
+        if node.state == State::Holds && node.moment < moment {
+            Some(node.moment)
+        } else {
+            None
+        }
+    }
+
+    /// When each group that is open for a node opened, by its number.
+    fn openings(&self, node: Node<'s>) -> Result<BTreeMap<usize, usize>, AllocError> {
+        let mut first = BTreeMap::new(self.alloc);
+        for number in node.from..node.to {
+            if let Some(link) = self.nodes.link(number) {
+                if let Some(opening) = self.opening(link, node.moment) {
+                    let least = first.get(&link.part()).copied().unwrap_or(opening);
+                    let _ = first.insert(link.part(), least.min(opening))?;
+                }
+            }
+        }
+        Ok(first)
+    }
+
+    /// By the groups on which its rule leans: of one that is open on what opened it, and of one that is shut on all that
+    /// is read so.
+    fn lean_on_groups(
+        &mut self,
         node: Node<'s>,
         wide: usize,
         needed: &mut Needed,
     ) -> Result<(), AllocError> {
-        let open = self.open_parts(node, node.moment)?;
-        let parts = self.wide.leaning(wide, &open)?;
-        for link in node.from..node.to {
-            if let Some(found) = self.nodes.link(link) {
-                let opened = match self.opening(link, node.moment) {
-                    Some((opened, _)) => Some(opened),
-                    None => None,
-                };
-                if parts.get(found.part()).copied() == Some(true)
-                    && opening(&open, found.part()) == opened
+        self.wide.find_leaning(wide, node.stage)?;
+        let groups = self.wide.leaning(wide, node.stage);
+        let first = self.openings(node)?;
+        for number in node.from..node.to {
+            if let Some(link) = self.nodes.link(number) {
+                if groups.binary_search(&link.part()).is_ok()
+                    && first.get(&link.part()).copied() == self.opening(link, node.moment)
                 {
-                    needed.add(found.read())?;
+                    needed.add(link.read())?;
                 }
             }
         }

@@ -32,21 +32,25 @@ pub(crate) struct Node<'s> {
     pub(crate) run: usize,
     /// Its links to what it reads, from one number up to another, once it was read.
     pub(crate) was_read: bool,
+    /// The last run that asked for all that it reads.
+    pub(crate) read_in: usize,
     pub(crate) from: usize,
     pub(crate) to: usize,
     /// How many of these were looked at, where they are one after the other.
     pub(crate) turn: usize,
+    /// The stage that it has come to, where its rule has many places.
+    pub(crate) stage: usize,
     /// Whether it is to be looked at again.
     pub(crate) waits: bool,
     /// The newest link to one that reads it, from 1, or 0.
     newest: u32,
-    /// What gave it, where one alone did.
+    /// What gave it, where one alone did; it itself, where it reads nothing for that.
     pub(crate) by: Option<usize>,
     /// How often something was settled before it was.
     pub(crate) moment: usize,
 }
 
-/// A link from a node to one that reads it, for a part of its rule.
+/// A link from a node to one that reads it, for a group of its rule's parts.
 #[derive(Clone, Copy, Drop)]
 pub(crate) struct Link {
     read: u32,
@@ -83,6 +87,10 @@ fn small(number: usize) -> Result<u32, AllocError> {
 impl Link {
     pub(crate) fn read(&self) -> usize {
         self.read as usize
+    }
+
+    pub(crate) fn reader(&self) -> usize {
+        self.reader as usize
     }
 
     pub(crate) fn part(&self) -> usize {
@@ -179,9 +187,11 @@ impl<'s> Nodes<'s> {
             state: State::Asked,
             run: 0,
             was_read: false,
+            read_in: 0,
             from: 0,
             to: 0,
             turn: 0,
+            stage: 0,
             waits: false,
             newest: 0,
             by: None,
@@ -211,7 +221,7 @@ impl<'s> Nodes<'s> {
         Ok(())
     }
 
-    /// From now on one node reads another, for a part of its rule.
+    /// From now on one node reads another, for a group of its rule's parts.
     pub(crate) fn add_link(
         &mut self,
         reader: usize,
@@ -238,10 +248,10 @@ impl<'s> Nodes<'s> {
         }
     }
 
-    /// The next that reads a node.
-    pub(crate) fn next_reader(&self, readers: &mut Readers) -> Option<usize> {
-        let link = self.links.get((readers.next as usize).checked_sub(1)?)?;
+    /// The next link to one that reads a node.
+    pub(crate) fn next_reader(&self, readers: &mut Readers) -> Option<Link> {
+        let link = self.link((readers.next as usize).checked_sub(1)?)?;
         readers.next = link.older;
-        Some(link.reader as usize)
+        Some(link)
     }
 }

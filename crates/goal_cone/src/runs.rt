@@ -14,6 +14,8 @@ struct Run {
     again: Vec<usize>,
     // what runs below it asked for, and of which number these are
     taken: Vec<(usize, usize)>,
+    // whether all that it asks for is settled
+    is_through: bool,
 }
 
 /// What the last run does next.
@@ -60,6 +62,7 @@ impl Runs {
             next: 0,
             again: Vec::new(self.alloc),
             taken: Vec::new(self.alloc),
+            is_through: false,
         })?;
         self.ask(nodes, root)
     }
@@ -84,7 +87,7 @@ impl Runs {
         if node.state != State::Asked || node.run == run {
             return Ok(());
         }
-        let is_taken = self.is_on(node.run);
+        let is_taken = node.run > 0 && self.is_on(node.run);
         if let Some(last) = self.runs.last_mut() {
             if is_taken {
                 last.taken.push((number, node.run))?;
@@ -123,11 +126,12 @@ impl Runs {
         }
     }
 
-    pub(crate) fn next(&mut self, nodes: &Nodes<'_>) -> Turn {
+    /// A run may end early, as soon as what it was to settle is settled, or once all is that it asks for.
+    pub(crate) fn next(&mut self, nodes: &Nodes<'_>, ends_early: bool) -> Turn {
         let Some(last) = self.runs.last_mut() else {
             return Turn::Nothing;
         };
-        if nodes.state(last.root) != State::Asked {
+        if last.is_through || ends_early && nodes.state(last.root) != State::Asked {
             return Turn::End;
         }
         if let Some(number) = last.again.pop() {
@@ -138,7 +142,10 @@ impl Runs {
                 last.next = last.next.saturating_add(1);
                 Turn::LookAt(number)
             }
-            None => Turn::Fail,
+            None => {
+                last.is_through = true;
+                Turn::Fail
+            }
         }
     }
 

@@ -5,20 +5,25 @@
 //! after the other, and of an exclusion its base. What holds is told to those that read it. Where nothing is left to be
 //! looked at, what was asked for fails. What an exclusion subtracts is settled by a run of its own, as soon as its base
 //! holds. No answer rests on this: who is given what was settled judges that.
+//!
+//! What is long, is long once: a node is read once, each link is told once, and asked once in a run. A later run may ask
+//! again what an earlier one left; once that is more than was read, none leaves anything. A rule of many places is
+//! walked over once for each way in which its groups open. For a goal a search takes so many steps at most
+//! ([`MOST_STEPS`]), and for the facts of a cone as many as the bounds of that allow.
 
 use crate::fault::ConeFault;
-use crate::nodes::{Node, Nodes, Rule, State};
+use crate::kept::{Named, WideRules};
+use crate::nodes::{Link, Node, Nodes, Rule, State};
 use crate::premises::{MAX_LINKS, MAX_USERSETS};
 use crate::runs::{Runs, Turn};
-use crate::through::targets;
-use crate::wide::{WideRules, gives_stored};
+use crate::through::objects;
+use crate::walks::gives_stored;
 use judgement::under;
 use marks::MarkedSet;
 use rewrites::{Part, Rewrite, Through};
 use snapshots::Snapshot;
 use std::alloc::{AllocError, Global};
 use tuple_text::{Fact, SetRef};
-use userset_index::Numbers;
 use wide_rules::namespaces_declaring;
 
 /// How many steps a search may take: one for each link and place, and one for each that is looked at or asked again.
@@ -56,6 +61,8 @@ pub struct Search<'s, 't> {
     told: usize,
     moment: usize,
     room: usize,
+    // how many links were asked again by a later run
+    again: usize,
 }
 
 /// The target of a stored userset: it itself, or its object under a relation.
@@ -73,6 +80,7 @@ impl<'s, 't> Search<'s, 't> {
         wide: &'s mut WideRules<'t>,
         user: u64,
     ) -> Search<'s, 't> {
+        wide.make_room();
         Search {
             alloc,
             snapshot,
@@ -85,6 +93,7 @@ impl<'s, 't> Search<'s, 't> {
             told: 0,
             moment: 0,
             room: MOST_STEPS,
+            again: 0,
         }
     }
 
@@ -113,7 +122,7 @@ impl<'s, 't> Search<'s, 't> {
             return Ok(None);
         };
         let rule = match &plain.parted {
-            Some(parted) => Rule::Many(self.wide.number(rules, place, plain, parted)?),
+            Some(parted) => Rule::Many(self.wide.number(place, plain, parted)?),
             None => Rule::Few(&plain.rewrite),
         };
         self.last = Some(LastRule {
@@ -155,7 +164,7 @@ impl<'s, 't> Search<'s, 't> {
         Ok(Some(number))
     }
 
-    /// From now on a node holds, by one that it reads, or by itself or more than one.
+    /// From now on a node holds: by one that it reads or by itself, or by more than one.
     fn hold(&mut self, number: usize, by: Option<usize>) -> Result<(), AllocError> {
         let moment = self.moment;
         if let Some(node) = self.nodes.get_mut(number) {
@@ -204,17 +213,17 @@ impl<'s, 't> Search<'s, 't> {
     fn tell_readers(&mut self, number: usize) -> Result<(), AllocError> {
         let mut readers = self.nodes.readers(number);
         for _ in 0..self.nodes.links() {
-            let Some(reader) = self.nodes.next_reader(&mut readers) else {
+            let Some(link) = self.nodes.next_reader(&mut readers) else {
                 break;
             };
-            self.tell_reader(reader, number)?;
+            self.tell_reader(link)?;
         }
         Ok(())
     }
 
-    /// One that a node reads holds.
-    fn tell_reader(&mut self, reader: usize, read: usize) -> Result<(), AllocError> {
-        let Some(node) = self.nodes.get(reader) else {
+    /// What is read by a link holds.
+    fn tell_reader(&mut self, link: Link) -> Result<(), AllocError> {
+        let Some(node) = self.nodes.get(link.reader()) else {
             return Ok(());
         };
         if node.state != State::Asked {
@@ -222,15 +231,28 @@ impl<'s, 't> Search<'s, 't> {
         }
         match node.rule {
             Rule::Few(Rewrite::Inter(_) | Rewrite::Minus(_, _)) => {
-                self.runs.look_again(node.run, reader, true)
+                self.runs.look_again(node.run, link.reader(), true)
             }
-            Rule::Few(_) => self.hold(reader, Some(read)),
-            Rule::Many(_) if node.waits => Ok(()),
-            Rule::Many(_) => {
-                self.set_waits(reader, true);
-                self.runs.look_again(node.run, reader, false)
+            Rule::Few(_) => self.hold(link.reader(), Some(link.read())),
+            Rule::Many(wide) => {
+                if self.open_group(link.reader(), wide, link.part())? && !node.waits {
+                    self.set_waits(link.reader(), true);
+                    self.runs.look_again(node.run, link.reader(), false)?;
+                }
+                Ok(())
             }
         }
+    }
+
+    /// A group of the parts of a node's rule opens. Whether it was shut.
+    fn open_group(&mut self, number: usize, wide: usize, group: usize) -> Result<bool, AllocError> {
+        let Some(node) = self.nodes.get_mut(number) else {
+            return Ok(false);
+        };
+        let stage = self.wide.behind(wide, node.stage, group)?;
+        let was_shut = stage != node.stage;
+        node.stage = stage;
+        Ok(was_shut)
     }
 
     fn set_waits(&mut self, number: usize, waits: bool) {
@@ -244,19 +266,25 @@ impl<'s, 't> Search<'s, 't> {
         self.nodes.add_link(site.node, read, site.part)?;
         match self.nodes.state(read) {
             State::Asked => self.runs.ask(&mut self.nodes, read),
-            State::Holds => {
-                if let Some(
-                    Node {
-                        rule: Rule::Few(_),
-                        ..
-                    },
-                ) = self.nodes.get(site.node)
-                {
-                    self.hold(site.node, Some(read))?;
-                }
+            State::Holds => self.link_to_held(site, read),
+            State::Fails => Ok(()),
+        }
+    }
+
+    /// What a node reads holds already.
+    fn link_to_held(&mut self, site: Site<'s>, read: usize) -> Result<(), AllocError> {
+        match self.nodes.get(site.node) {
+            Some(
+                Node {
+                    rule: Rule::Many(wide),
+                    ..
+                },
+            ) => {
+                let _ = self.open_group(site.node, wide, site.part)?;
                 Ok(())
             }
-            State::Fails => Ok(()),
+            Some(_) => self.hold(site.node, Some(read)),
+            None => Ok(()),
         }
     }
 
@@ -291,7 +319,7 @@ impl<'s, 't> Search<'s, 't> {
             Rewrite::This => {
                 // of a fact that was asked when it was reached
                 if !site.is_fact && self.snapshot.has_id(site.set, self.user) {
-                    self.hold(site.node, None)?;
+                    self.hold(site.node, Some(site.node))?;
                     return Ok(());
                 }
                 self.read_through(site, site.set, None)
@@ -400,6 +428,7 @@ impl<'s, 't> Search<'s, 't> {
         let from = self.nodes.links();
         if let Some(node) = self.nodes.get_mut(number) {
             node.was_read = true;
+            node.read_in = node.run;
             node.from = from;
             node.to = from;
         }
@@ -420,10 +449,17 @@ impl<'s, 't> Search<'s, 't> {
         }
     }
 
-    /// Asks again for what a node reads that is not settled. That takes from the room too: each run may do it.
-    fn ask_each(&mut self, node: Node<'s>) -> Result<(), ConeFault> {
+    /// Asks again for what a node reads that is not settled, once in a run. That takes from the room too.
+    fn ask_each(&mut self, number: usize, node: Node<'s>) -> Result<(), ConeFault> {
+        if node.read_in == node.run {
+            return Ok(());
+        }
+        if let Some(node) = self.nodes.get_mut(number) {
+            node.read_in = node.run;
+        }
         for link in node.from..node.to {
             self.take_room()?;
+            self.again = self.again.saturating_add(1);
             if let Some((read, State::Asked)) = self.nodes.read_by(link) {
                 self.runs.ask(&mut self.nodes, read)?;
             }
@@ -438,7 +474,7 @@ impl<'s, 't> Search<'s, 't> {
         rule: &'s Rewrite,
     ) -> Result<(), ConeFault> {
         if node.was_read {
-            return self.ask_each(node);
+            return self.ask_each(number, node);
         }
         self.begin(number);
         let site = Site {
@@ -537,7 +573,7 @@ impl<'s, 't> Search<'s, 't> {
     ) -> Result<(), ConeFault> {
         self.set_waits(number, false);
         if node.was_read {
-            self.ask_each(node)?;
+            self.ask_each(number, node)?;
         } else {
             self.begin(number);
             self.read_parts(number, node, wide)?;
@@ -552,8 +588,7 @@ impl<'s, 't> Search<'s, 't> {
         if let Some(read) = self.first_lower(number, node, wide) {
             return self.settle_first(number, read);
         }
-        let open = self.open_parts(node, self.moment)?;
-        if self.wide.opens(wide, &open) {
+        if self.wide.opens(wide, node.stage) {
             self.hold(number, None)?;
         }
         Ok(())
@@ -579,94 +614,87 @@ impl<'s, 't> Search<'s, 't> {
         None
     }
 
+    /// What a rule of many places reads: of the object itself, and through each tupleset.
     fn read_parts(&mut self, number: usize, node: Node<'s>, wide: usize) -> Result<(), ConeFault> {
-        for part in 0..self.wide.parts(wide) {
-            if let Some((read, declaring)) = self.wide.part(wide, part) {
-                let site = Site {
-                    node: number,
-                    set: node.set,
-                    part,
-                    is_fact: true,
-                };
-                self.read_part(site, read, declaring)?;
+        let site = Site {
+            node: number,
+            set: node.set,
+            part: 0,
+            is_fact: true,
+        };
+        for place in 0..self.wide.count_own(wide) {
+            if let Some((leaf, part)) = self.wide.own(wide, place) {
+                self.read_own(Site { part, ..site }, leaf)?;
             }
+        }
+        for place in 0..self.wide.count_tuplesets(wide) {
+            self.read_tupleset(site, wide, place)?;
         }
         Ok(())
     }
 
-    fn read_part(
-        &mut self,
-        site: Site<'s>,
-        part: &'s Part,
-        declaring: Numbers,
-    ) -> Result<(), ConeFault> {
-        match part {
-            Part::Leaf(leaf) => self.read_leaf(site, leaf, declaring),
-            Part::Through(through) => {
-                let sets = targets(self.alloc, self.snapshot, site.set.set, through, declaring)?;
-                for set in sets {
-                    self.lead(site, MarkedSet::of(set))?;
-                }
-                Ok(())
-            }
+    fn read_own(&mut self, site: Site<'s>, leaf: &'s Rewrite) -> Result<(), ConeFault> {
+        if let Rewrite::This = leaf {
+            self.take_room()?;
+            let place = self.place(site.set, leaf)?;
+            return Ok(self.link(site, place)?);
         }
+        self.read(site, leaf)
     }
 
-    fn read_leaf(
-        &mut self,
-        site: Site<'s>,
-        leaf: &'s Rewrite,
-        declaring: Numbers,
-    ) -> Result<(), ConeFault> {
-        match leaf {
-            Rewrite::This => {
-                self.take_room()?;
-                let place = self.place(site.set, leaf)?;
-                Ok(self.link(site, place)?)
-            }
-            Rewrite::TupleTo { tupleset, computed } => {
-                let set = MarkedSet::of(under(site.set.set, tupleset.as_str()));
-                if self.snapshot.timeline.usersets().is_crowded(set) {
-                    let stored = self.snapshot.leading_through(self.alloc, set, declaring)?;
-                    return self.read_stored(site, stored, Some(computed));
-                }
-                self.read_through(site, set, Some(computed))
-            }
-            leaf => self.read(site, leaf),
-        }
-    }
-
-    /// As which the parts of a rule opened for a node before a moment, counted from 1, or 0.
-    pub(crate) fn open_parts(
+    /// The usersets that are stored in a tupleset, all that matter among them.
+    fn stored_in(
         &self,
-        node: Node<'s>,
-        moment: usize,
-    ) -> Result<Vec<usize>, AllocError> {
-        let Rule::Many(wide) = node.rule else {
-            return Ok(Vec::new(self.alloc));
-        };
-        let mut open = vec![in self.alloc; 0usize; self.wide.parts(wide)]?;
-        for link in node.from..node.to {
-            if let Some((opening, part)) = self.opening(link, moment) {
-                if let Some(first) = open.get_mut(part) {
-                    if *first == 0 || opening < *first {
-                        *first = opening;
-                    }
-                }
+        set: SetRef<'s>,
+        wide: usize,
+        place: usize,
+    ) -> Result<Vec<SetRef<'s>>, AllocError> {
+        if let Some((tupleset, part)) = self.wide.tupleset(wide, place) {
+            if let Part::Through(through) = &part.part {
+                let set = MarkedSet::of(under(set, tupleset));
+                return objects(self.alloc, self.snapshot, set, through, part.declaring);
             }
         }
-        Ok(open)
+        Ok(Vec::new(self.alloc))
     }
 
-    /// As which what a link is of opened before a moment, counted from 1, and for which part.
-    pub(crate) fn opening(&self, link: usize, moment: usize) -> Option<(usize, usize)> {
-        let link = self.nodes.link(link)?;
-        let node = self.nodes.get(link.read())?;
-        if node.state == State::Holds && node.moment < moment {
-            Some((node.moment.saturating_add(1), link.part()))
-        } else {
-            None
+    /// A node reads what is stored in a tupleset, each under those of the relations that are read that it declares.
+    fn read_tupleset(
+        &mut self,
+        site: Site<'s>,
+        wide: usize,
+        place: usize,
+    ) -> Result<(), ConeFault> {
+        let rules = self.snapshot.timeline.rules();
+        let mut namespace = "";
+        let mut names = Vec::new(self.alloc);
+        for stored in self.stored_in(site.set.set, wide, place)? {
+            self.take_room()?;
+            // those of one namespace mostly follow one another
+            if namespace != stored.namespace {
+                namespace = stored.namespace;
+                let at = self.snapshot.at;
+                names = self.wide.names_read(rules, wide, place, namespace, at)?;
+            }
+            self.lead_each(site, stored, &names)?;
         }
+        Ok(())
+    }
+
+    fn lead_each(
+        &mut self,
+        site: Site<'s>,
+        stored: SetRef<'s>,
+        names: &[Named<'t>],
+    ) -> Result<(), ConeFault> {
+        for named in names {
+            let site = Site {
+                part: named.group,
+                ..site
+            };
+            self.lead(site, MarkedSet::of(under(stored, named.relation)))?;
+        }
+        Ok(())
     }
 
     /// Looks at nodes until each run has ended.
@@ -674,7 +702,9 @@ impl<'s, 't> Search<'s, 't> {
         // each turn takes from the room, or ends a run, and to begin one does
         for _ in 0..usize::MAX {
             self.tell()?;
-            match self.runs.next(&self.nodes) {
+            // one that ends as soon as it may leaves what others ask again; so that is no more than was asked once
+            let ends_early = self.again <= self.nodes.links();
+            match self.runs.next(&self.nodes, ends_early) {
                 Turn::LookAt(number) => {
                     self.take_room()?;
                     self.look_at(number)?;
@@ -704,7 +734,8 @@ impl<'s, 't> Search<'s, 't> {
     ///
     /// Refusals: OutOfMemory.
     pub fn order_of(&mut self, facts: &'s [Fact]) -> Result<Vec<usize>, AllocError> {
-        self.room = MOST_STEPS;
+        // a cone has its own bounds
+        self.room = usize::MAX;
         let mut places = vec![in self.alloc; None; self.nodes.len()]?;
         for place in 0..facts.len() {
             match self.settle_set(facts[place].set()) {

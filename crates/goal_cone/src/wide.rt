@@ -1,310 +1,240 @@
-//! Rules of many places: which of their parts open them, and on which they lean.
+//! Rules of many places: what they read, which groups of their parts open them, and on which they lean.
 //!
-//! What a rule reads for a fact is read part by part, and the rule is then walked over as often as more of its parts
-//! hold. Nothing here is trusted.
+//! Facts of one rule are alike where the same groups opened for them one after the other: what was found for one holds
+//! for the others. So a rule is walked over once for each way in which its groups opened, and not once for each fact.
 
-use namespaces::{PlainRule, RulePlace, Rules};
-use rewrites::{Node, Part, PartedRule, Rewrite, Through};
+use crate::groups::{Groups, Read};
+use crate::walks::{gives_stored, has_exclusions, lean, opens};
+use namespaces::PlainRule;
+use rewrites::PartedRule;
 use std::alloc::{AllocError, Global};
 use std::collections::BTreeMap;
-use userset_index::Numbers;
-use wide_rules::namespaces_declaring;
 
-/// A rule of many places, with the namespaces that ever declare what each part reads through a tupleset.
+/// A group opens at a stage.
+#[derive(Clone, Copy, Drop)]
+struct Opened {
+    stage: usize,
+    group: usize,
+}
+
+/// Some groups of a rule's parts that opened one after the other: how many, the last one, and the stage before it.
+#[derive(Clone, Copy, Drop)]
+struct Stage {
+    count: usize,
+    last: Option<Opened>,
+    // whether the rule is open, once that was asked
+    is_open: Option<bool>,
+}
+
+/// A tupleset through which a rule reads: its part among the leaves, and what is read there first.
+#[derive(Clone, Copy, Drop)]
+pub(crate) struct Tupleset {
+    pub(crate) part: usize,
+    pub(crate) first: Read,
+}
+
+/// A rule of many places, with the stages that facts of it have come to.
 #[derive(Drop)]
 pub(crate) struct WideRule<'t> {
-    rule: &'t PartedRule,
-    declaring: Vec<Numbers>,
+    pub(crate) rule: &'t PartedRule,
+    pub(crate) groups: Groups,
+    /// The number of its leaves.
+    pub(crate) leaves: usize,
+    pub(crate) tuplesets: Vec<Tupleset>,
     pub(crate) gives_stored: bool,
     pub(crate) has_exclusions: bool,
+    stages: Vec<Stage>,
+    // by a stage and a group, the stage behind it
+    behind: BTreeMap<(usize, usize), usize>,
+    // while the rule is walked over, as which the parts and the groups opened, counted from 1; else, and where one is
+    // shut, 0
+    open: Vec<usize>,
+    open_groups: Vec<usize>,
 }
 
-/// The rules of many places of one trace that were asked for, from goal to goal.
-#[derive(Drop)]
-pub struct WideRules<'t> {
-    alloc: Global,
-    rules: Vec<WideRule<'t>>,
-    // by their places
-    numbers: BTreeMap<(usize, usize), usize>,
+fn is_set(flags: &[bool], at: usize) -> bool {
+    flags.get(at).copied() == Some(true)
 }
 
-fn is_this(rewrite: &Rewrite) -> bool {
-    match rewrite {
-        Rewrite::This => true,
-        _ => false,
+fn set_number(numbers: &mut [usize], at: usize, number: usize) {
+    if let Some(found) = numbers.get_mut(at) {
+        *found = number;
     }
 }
 
-/// Whether a rule gives each user who is stored, at once.
-pub(crate) fn gives_stored(rule: &Rewrite) -> bool {
-    match rule {
-        Rewrite::Union(children) => children.iter().any(|child| is_this(child)),
-        rule => is_this(rule),
-    }
-}
-
-#[cycle(exclusions)]
-fn some_has_exclusions(nodes: &Vec<Node>) -> bool {
-    for node in nodes {
-        if has_exclusions(node) {
-            return true;
-        }
-    }
-    false
-}
-
-#[cycle(exclusions)]
-fn has_exclusions(node: &Node) -> bool {
-    match node {
-        Node::Part(_) => false,
-        Node::Union(nodes) | Node::Inter(nodes) => some_has_exclusions(nodes),
-        Node::Minus(_, _) => true,
-    }
-}
-
-/// The namespaces that ever declare what a part reads through a tupleset.
-fn declaring_of(alloc: Global, rules: &Rules, part: &Part) -> Result<Numbers, AllocError> {
-    match part {
-        Part::Leaf(Rewrite::TupleTo { tupleset, computed }) => {
-            let through = Through::of(alloc, tupleset, computed)?;
-            namespaces_declaring(alloc, rules, &through)
-        }
-        Part::Leaf(_) => Ok(Numbers::none()),
-        Part::Through(through) => namespaces_declaring(alloc, rules, through),
+/// No part is open.
+fn first_stage() -> Stage {
+    Stage {
+        count: 0,
+        last: None,
+        is_open: None,
     }
 }
 
 impl<'t> WideRule<'t> {
-    fn of(
+    pub(crate) fn of(
         alloc: Global,
-        rules: &Rules,
-        plain: &'t PlainRule,
+        plain: &PlainRule,
         rule: &'t PartedRule,
+        leaves: usize,
     ) -> Result<WideRule<'t>, AllocError> {
-        let mut declaring = Vec::with_capacity(alloc, rule.parts.len())?;
-        for part in &rule.parts {
-            declaring.push(declaring_of(alloc, rules, part)?)?;
-        }
+        let mut stages = Vec::new(alloc);
+        stages.push(first_stage())?;
+        let open = vec![in alloc; 0usize; rule.parts.len()]?;
+        let groups = Groups::of(alloc, &rule.parts)?;
+        let open_groups = vec![in alloc; 0usize; groups.len().saturating_add(1)]?;
         Ok(WideRule {
             rule,
-            declaring,
+            groups,
+            leaves,
+            tuplesets: Vec::new(alloc),
             gives_stored: gives_stored(&plain.rewrite),
             has_exclusions: has_exclusions(&rule.top),
+            stages,
+            behind: BTreeMap::new(alloc),
+            open,
+            open_groups,
         })
     }
-}
 
-impl<'t> WideRules<'t> {
-    pub fn new(alloc: Global) -> WideRules<'t> {
-        WideRules {
-            alloc,
-            rules: Vec::new(alloc),
-            numbers: BTreeMap::new(alloc),
-        }
+    /// From now on there are no stages but the first.
+    pub(crate) fn forget_stages(&mut self) {
+        self.stages.truncate(1);
+        self.behind.clear();
     }
 
-    /// The number of the rule at a place, which is added where it was not yet.
-    pub(crate) fn number(
-        &mut self,
-        rules: &Rules,
-        place: RulePlace,
-        plain: &'t PlainRule,
-        rule: &'t PartedRule,
-    ) -> Result<usize, AllocError> {
-        let key = (place.line, place.relation);
-        if let Some(number) = self.numbers.get(&key).copied() {
-            return Ok(number);
-        }
-        let number = self.rules.len();
-        self.rules
-            .push(WideRule::of(self.alloc, rules, plain, rule)?)?;
-        let _ = self.numbers.insert(key, number)?;
-        Ok(number)
+    /// The group that opened last at a stage, and the stage before it.
+    fn last_of(&self, stage: usize) -> Option<Opened> {
+        self.stages.get(stage)?.last
     }
 
-    pub(crate) fn get(&self, number: usize) -> Option<&WideRule<'t>> {
-        self.rules.get(number)
-    }
-
-    /// A part of a rule, and the namespaces that ever declare what it reads through a tupleset.
-    pub(crate) fn part(&self, number: usize, part: usize) -> Option<(&'t Part, Numbers)> {
-        let wide = self.rules.get(number)?;
-        let rule = wide.rule;
-        let declaring = wide.declaring.get(part).copied()?;
-        Some((rule.parts.get(part)?, declaring))
-    }
-
-    /// How many parts a rule has.
-    pub(crate) fn parts(&self, number: usize) -> usize {
-        match self.rules.get(number) {
-            Some(wide) => wide.rule.parts.len(),
+    /// How many groups are open at a stage.
+    fn count_at(&self, stage: usize) -> usize {
+        match self.stages.get(stage) {
+            Some(found) => found.count,
             None => 0,
         }
     }
 
-    /// Whether the rule gives a fact, of whose parts these are open.
-    pub(crate) fn opens(&self, number: usize, open: &[usize]) -> bool {
-        match self.rules.get(number) {
-            Some(wide) => opens(&wide.rule.top, open),
-            None => false,
-        }
-    }
-
-    /// The parts on which that leans.
-    pub(crate) fn leaning(&self, number: usize, open: &[usize]) -> Result<Vec<bool>, AllocError> {
-        let mut kept = vec![in self.alloc; false; open.len()]?;
-        if let Some(wide) = self.rules.get(number) {
-            lean(&wide.rule.top, opens(&wide.rule.top, open), open, &mut kept);
-        }
-        Ok(kept)
-    }
-}
-
-/// As which a part opened, counted from 1, or `None` where it is shut.
-pub(crate) fn opening(open: &[usize], part: usize) -> Option<usize> {
-    match open.get(part).copied() {
-        Some(0) | None => None,
-        Some(opening) => Some(opening),
-    }
-}
-
-/// The first of the nodes that is open, or that is shut.
-#[cycle(opens)]
-fn first_of(nodes: &Vec<Node>, is_open: bool, open: &[usize]) -> Option<usize> {
-    for k in 0..nodes.len() {
-        if opens(&nodes[k], open) == is_open {
-            return Some(k);
-        }
-    }
-    None
-}
-
-/// Whether a node of a rule is open.
-#[cycle(opens)]
-fn opens(node: &Node, open: &[usize]) -> bool {
-    match node {
-        Node::Part(part) => opening(open, *part).is_some(),
-        Node::Union(nodes) => first_of(nodes, true, open).is_some(),
-        Node::Inter(nodes) => first_of(nodes, false, open).is_none(),
-        Node::Minus(base, subtract) => opens(base, open) && !opens(subtract, open),
-    }
-}
-
-/// With which part a node opened, or `None` where it is shut.
-#[cycle(opened)]
-fn opened_with(node: &Node, open: &[usize]) -> Option<usize> {
-    match node {
-        Node::Part(part) => opening(open, *part),
-        Node::Union(nodes) => {
-            let (_, opening) = first_opened(nodes, open)?;
-            Some(opening)
-        }
-        Node::Inter(nodes) => {
-            let mut last = 0;
-            for node in nodes {
-                last = opened_with(node, open)?.max(last);
-            }
-            Some(last)
-        }
-        Node::Minus(base, subtract) => {
-            if opens(subtract, open) {
-                None
-            } else {
-                opened_with(base, open)
-            }
-        }
-    }
-}
-
-/// The node that opened first, and with which part.
-#[cycle(opened)]
-fn first_opened(nodes: &Vec<Node>, open: &[usize]) -> Option<(usize, usize)> {
-    let mut first = None;
-    for k in 0..nodes.len() {
-        if let Some(opening) = opened_with(&nodes[k], open) {
-            first = match first {
-                Some((_, before)) if before <= opening => first,
-                _ => Some((k, opening)),
+    /// Whether the group is open at the stage. A stage has each group once, so it is behind no more stages than the
+    /// rule has groups.
+    fn has(&self, stage: usize, group: usize) -> bool {
+        let mut stage = stage;
+        for _ in 0..self.stages.len() {
+            let Some(last) = self.last_of(stage) else {
+                return false;
             };
-        }
-    }
-    first
-}
-
-/// Whether one of the nodes is a part that is shut and is leaned on already.
-fn has_kept(nodes: &Vec<Node>, open: &[usize], kept: &[bool]) -> bool {
-    for node in nodes {
-        if let Node::Part(part) = node {
-            if kept.get(*part).copied() == Some(true) && opening(open, *part).is_none() {
+            if last.group == group {
                 return true;
             }
+            stage = last.stage;
+        }
+        false
+    }
+
+    /// The stage behind a stage where a group opens, if that was found.
+    pub(crate) fn known_behind(&self, stage: usize, group: usize) -> Option<usize> {
+        self.behind.get(&(stage, group)).copied()
+    }
+
+    /// Finds the stage behind a stage where a group opens.
+    pub(crate) fn find_behind(&mut self, stage: usize, group: usize) -> Result<usize, AllocError> {
+        let mut next = stage;
+        if !self.has(stage, group) {
+            next = self.stages.len();
+            let count = self.count_at(stage).saturating_add(1);
+            self.stages.push(Stage {
+                count,
+                last: Some(Opened { stage, group }),
+                is_open: None,
+            })?;
+        }
+        let _ = self.behind.insert((stage, group), next)?;
+        Ok(next)
+    }
+
+    /// From now on the groups of a stage are open as they opened, or shut. A part of some of them is as the one that
+    /// opened first, which comes last here. It takes no more steps than a walk over the rule.
+    fn set_groups(&mut self, stage: usize, to_open: bool) {
+        let mut stage = stage;
+        for _ in 0..self.stages.len() {
+            let Some(last) = self.last_of(stage) else {
+                return;
+            };
+            let opening = if to_open { self.count_at(stage) } else { 0 };
+            self.set_group(last.group, opening);
+            stage = last.stage;
         }
     }
-    false
-}
 
-/// One node that is shut is enough: a part that is leaned on already, and else the first.
-#[cycle(lean)]
-fn lean_on_shut(nodes: &Vec<Node>, open: &[usize], kept: &mut [bool]) {
-    if has_kept(nodes, open, kept) {
-        return;
-    }
-    if let Some(first) = first_of(nodes, false, open) {
-        if first < nodes.len() {
-            lean(&nodes[first], false, open, kept);
+    fn set_group(&mut self, group: usize, opening: usize) {
+        set_number(&mut self.open_groups, group, opening);
+        let mut rest = group;
+        for _ in 0..self.groups.len() {
+            let Some(found) = self.groups.get(rest) else {
+                return;
+            };
+            set_number(&mut self.open, found.part, opening);
+            rest = found.others;
         }
     }
-}
 
-/// One node that is open is enough: the one that opened first.
-#[cycle(lean)]
-fn lean_on_open(nodes: &Vec<Node>, open: &[usize], kept: &mut [bool]) {
-    if let Some((first, _)) = first_opened(nodes, open) {
-        if first < nodes.len() {
-            lean(&nodes[first], true, open, kept);
+    /// Whether the rule is open at a stage.
+    pub(crate) fn opens(&mut self, stage: usize) -> bool {
+        let Some(found) = self.stages.get(stage).copied() else {
+            return false;
+        };
+        if let Some(is_open) = found.is_open {
+            return is_open;
         }
+        self.set_groups(stage, true);
+        let is_open = opens(&self.rule.top, &self.open);
+        self.set_groups(stage, false);
+        if let Some(found) = self.stages.get_mut(stage) {
+            found.is_open = Some(is_open);
+        }
+        is_open
     }
-}
 
-#[cycle(lean)]
-fn lean_on_each(nodes: &Vec<Node>, is_open: bool, open: &[usize], kept: &mut [bool]) {
-    for node in nodes {
-        lean(node, is_open, open, kept);
+    /// Whether one of the parts that are leaned on opened with the group, or is shut, as the group is.
+    fn is_leaned_on(&self, group: usize, kept: &[bool]) -> bool {
+        let opening = self.open_groups.get(group).copied();
+        let mut rest = group;
+        for _ in 0..self.groups.len() {
+            let Some(found) = self.groups.get(rest) else {
+                return false;
+            };
+            if is_set(kept, found.part) && self.open.get(found.part).copied() == opening {
+                return true;
+            }
+            rest = found.others;
+        }
+        false
     }
-}
 
-/// Keeps the parts on which a node leans that is open, or shut.
-#[cycle(lean)]
-fn lean(node: &Node, is_open: bool, open: &[usize], kept: &mut [bool]) {
-    match node {
-        Node::Part(part) => {
-            if let Some(flag) = kept.get_mut(*part) {
-                *flag = true;
+    fn groups_of(&self, alloc: Global, kept: &[bool]) -> Result<Vec<usize>, AllocError> {
+        let mut groups = Vec::new(alloc);
+        for group in self.groups.of_reads() {
+            if self.is_leaned_on(*group, kept) {
+                groups.push(*group)?;
             }
         }
-        Node::Union(nodes) => {
-            if is_open {
-                lean_on_open(nodes, open, kept);
-            } else {
-                lean_on_each(nodes, is_open, open, kept);
-            }
-        }
-        Node::Inter(nodes) => {
-            if is_open {
-                lean_on_each(nodes, is_open, open, kept);
-            } else {
-                lean_on_shut(nodes, open, kept);
-            }
-        }
-        Node::Minus(base, subtract) => {
-            if is_open {
-                lean(base, true, open, kept);
-                lean(subtract, false, open, kept);
-            } else if opens(subtract, open) {
-                lean(subtract, true, open, kept);
-            } else {
-                lean(base, false, open, kept);
-            }
-        }
+        Ok(groups)
+    }
+
+    /// The groups on which the rule leans at a stage, rising: where it is open, on those that opened it, and else on
+    /// enough of those that keep it shut.
+    pub(crate) fn leaning(
+        &mut self,
+        alloc: Global,
+        stage: usize,
+    ) -> Result<Vec<usize>, AllocError> {
+        let mut kept = vec![in alloc; false; self.rule.parts.len()]?;
+        let is_open = self.opens(stage);
+        self.set_groups(stage, true);
+        lean(&self.rule.top, is_open, &self.open, &mut kept);
+        let groups = self.groups_of(alloc, &kept);
+        self.set_groups(stage, false);
+        groups
     }
 }
