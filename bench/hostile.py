@@ -79,6 +79,7 @@ KIND is one of
   three_steps    a group of many groups of one group each, and checks that users of the last are in the first: for `make`
   given_up       objects in a chain, relations that each read others, and checks of what no record can say: for `make`
   minus_make     objects in a chain that each have whom the next one has and a wide rule has not: for `make`
+  barred_make    documents that each bar the user by three steps, and by a group of many others: for `make`
   toggled        one tuple added and removed in every other commit, and checks at old snapshots
   ids            one group of users alone, and checks that a stranger is not in it
   chain          records of one chain of groups each, as long as a record may be: from the last group on
@@ -1101,6 +1102,18 @@ def minus_make(size):
     return given
 
 
+def barred_make(size):
+    """Documents that each bar the user by three steps, and by a group of many groups that the user is in none of."""
+    doc = {"name": "d", "relations": [relation("banned"), {**relation("v", {"exclusion": {"base": THIS, "subtract": {"computed": "banned"}}}), "stratum": 1}]}
+    given = Input(size, [{"name": "g", "relations": [relation("m")]}, doc, {"name": "top", "relations": [{**relation("m"), "stratum": 1}]}])
+    count = size // 500
+    for k in range(count):
+        given.commit([f"g:hub#m@g:{k}#m", f"g:{k}#m@g:{k}/in#m", f"g:{k}/a#m@g:{k}/b#m", f"g:{k}/b#m@g:{k}/c#m", f"g:{k}/c#m@1",
+                      f"d:{k}#banned@g:hub#m", f"d:{k}#banned@g:{k}/a#m", f"d:{k}#v@1", f"top:all#m@d:{k}#v"])
+    given.check("top:all#m@1", False, [])
+    return given
+
+
 def toggled(size):
     given = Input(size, [{"name": "doc", "relations": [relation("viewer")]}])
     goal = "doc:readme#viewer@10"
@@ -1255,6 +1268,7 @@ KINDS = {
     "three_steps": three_steps,
     "given_up": given_up,
     "minus_make": minus_make,
+    "barred_make": barred_make,
     "toggled": toggled,
     "ids": ids,
     "chain": lambda size: rings(size, 1, False),
@@ -1270,7 +1284,7 @@ KINDS = {
 
 # Those whose evidence the auditor makes: they have none.
 FOR_MAKE = ("ring", "wide_make", "nested_make", "parts_make", "through_make", "few_make", "each_declares", "unread_through", "late_through",
-            "wide_groups", "many_make", "small_sets", "three_steps", "given_up", "minus_make")
+            "wide_groups", "many_make", "small_sets", "three_steps", "given_up", "minus_make", "barred_make")
 
 
 def main():

@@ -111,7 +111,10 @@ impl<'s, 't> Search<'s, 't> {
             Rule::Few(Rewrite::Minus(_, _)) if node.state == State::Fails => {
                 self.lean_on_exclusion(node, needed)
             }
-            Rule::Many(wide) => self.lean_on_groups(node, wide, needed),
+            Rule::Many(wide) => {
+                self.wide.find_leaning(wide, node.stage)?;
+                self.lean_on_groups(node, wide, needed)
+            }
             _ => {
                 match node.by {
                     Some(read) => needed.add(read),
@@ -171,12 +174,11 @@ impl<'s, 't> Search<'s, 't> {
     /// By the groups on which its rule leans: of one that is open on what opened it, and of one that is shut on all that
     /// is read so.
     fn lean_on_groups(
-        &mut self,
+        &self,
         node: Node<'s>,
         wide: usize,
         needed: &mut Needed,
     ) -> Result<(), AllocError> {
-        self.wide.find_leaning(wide, node.stage)?;
         let groups = self.wide.leaning(wide, node.stage);
         let first = self.openings(node)?;
         for number in node.from..node.to {

@@ -73,6 +73,17 @@ fn target<'s>(stored: MarkedSet<'s>, computed: Option<&'s String>) -> MarkedSet<
     }
 }
 
+/// Whether a userset is of another namespace than the one before it. Those of one mostly follow one another.
+fn is_of_another(sets: &[SetRef<'_>], place: usize) -> bool {
+    let Some(before) = place.checked_sub(1) else {
+        return true;
+    };
+    match (sets.get(before), sets.get(place)) {
+        (Some(before), Some(set)) => before.namespace != set.namespace,
+        _ => true,
+    }
+}
+
 impl<'s, 't> Search<'s, 't> {
     pub fn new(
         alloc: Global,
@@ -666,17 +677,17 @@ impl<'s, 't> Search<'s, 't> {
         place: usize,
     ) -> Result<(), ConeFault> {
         let rules = self.snapshot.timeline.rules();
-        let mut namespace = "";
+        let at = self.snapshot.at;
+        let sets = self.stored_in(site.set.set, wide, place)?;
         let mut names = Vec::new(self.alloc);
-        for stored in self.stored_in(site.set.set, wide, place)? {
+        for k in 0..sets.len() {
             self.take_room()?;
-            // those of one namespace mostly follow one another
-            if namespace != stored.namespace {
-                namespace = stored.namespace;
-                let at = self.snapshot.at;
-                names = self.wide.names_read(rules, wide, place, namespace, at)?;
+            if is_of_another(&sets, k) {
+                names = self
+                    .wide
+                    .names_read(rules, wide, place, sets[k].namespace, at)?;
             }
-            self.lead_each(site, stored, &names)?;
+            self.lead_each(site, sets[k], &names)?;
         }
         Ok(())
     }
