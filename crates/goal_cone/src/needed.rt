@@ -139,10 +139,11 @@ impl<'s, 't> Search<'s, 't> {
         Ok(())
     }
 
-    /// One that fails leans on its base, unless that holds.
+    /// One that fails leans on what it subtracts, where that held before, and else on its base.
     fn lean_on_exclusion(&self, node: Node<'s>, needed: &mut Needed) -> Result<(), AllocError> {
-        match self.nodes.read_by(node.from) {
-            Some((_, State::Holds)) => self.lean_on(node.from.saturating_add(1), needed),
+        let subtract = node.from.saturating_add(1);
+        match self.nodes.link(subtract) {
+            Some(link) if self.opening(link, node.moment).is_some() => needed.add(link.read()),
             _ => self.lean_on(node.from, needed),
         }
     }

@@ -556,12 +556,16 @@ impl<'s, 't> Search<'s, 't> {
             self.add_place(number, node.set, subtract)?;
             self.finish(number);
         }
+        let subtracted = self.nodes.read_by(from.saturating_add(1));
+        if let Some((_, State::Holds)) = subtracted {
+            return Ok(());
+        }
         match self.nodes.read_by(from) {
             Some((read, State::Asked)) => return Ok(self.runs.ask(&mut self.nodes, read)?),
             Some((_, State::Holds)) => {}
             _ => return Ok(()),
         }
-        match self.nodes.read_by(from.saturating_add(1)) {
+        match subtracted {
             Some((read, State::Asked)) => self.settle_first(number, read),
             Some((_, State::Fails)) => Ok(self.hold(number, None)?),
             _ => Ok(()),
