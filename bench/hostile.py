@@ -67,6 +67,7 @@ KIND is one of
   ring           groups in a circle, and checks that each of many strangers is not in it: for `make`
   wide_make      a rule of many places that compute one relation, and objects in a chain of such rules: for `make`
   nested_make    a rule of many intersections, and objects in a chain of such rules: for `make`
+  parts_make     a rule of many intersections of relations that are read through ten tuplesets, and objects in a chain of such rules: for `make`
   through_make   a rule of many relations through one tupleset, in which 400 usersets are stored, and checks of two such objects in turn: for `make`
   few_make       the same with 60 relations, of which one of the usersets' 250 namespaces declares one: for `make`
   each_declares  as `through_make`, where each of 250 namespaces declares other ones of the relations, and the usersets are of one of them: for `make`
@@ -78,6 +79,7 @@ KIND is one of
   three_steps    a group of many groups of one group each, and checks that users of the last are in the first: for `make`
   given_up       objects in a chain, relations that each read others, and checks of what no record can say: for `make`
   minus_make     objects in a chain that each have whom the next one has and a wide rule has not: for `make`
+  barred_make    documents that each bar the user by three steps, and by a group of many others: for `make`
   toggled        one tuple added and removed in every other commit, and checks at old snapshots
   ids            one group of users alone, and checks that a stranger is not in it
   chain          records of one chain of groups each, as long as a record may be: from the last group on
@@ -1011,6 +1013,22 @@ def nested_make(size):
     return given
 
 
+def parts_make(size):
+    """A rule of many intersections of what is read through ten tuplesets, no two alike, and objects in a chain that each read the next one's."""
+    sets = [f"p{k}" for k in range(10)]
+    places = [{"intersection": [{"tuple_to": {"tupleset": sets[k % 10], "computed": "c%x" % (2 * k + j)}} for j in range(2)]}
+              for k in range(min(size // 3, LINE * 8 // 10) // 120)]
+    rule = nested([*places, {"tuple_to": {"tupleset": "parent", "computed": "viewer"}}])
+    given = Input(size, [{"name": "doc", "relations": [*map(relation, [*sets, "parent"]), relation("viewer", rule)]}])
+    given.bytes = len(given.lines[0])
+    k = 0
+    while not given.is_full():
+        given.commit([f"doc:{j}#parent@doc:{j + 1}#parent" for j in range(k, k + 20)])
+        k += 20
+    given.check("doc:0#viewer@7", False, [])
+    return given
+
+
 def many_make(size):
     """One of the usersets is of the namespace that declares what is read, so that each check has to name two folders."""
     names = [f"t{k}" for k in range(max(min(size // 3000, 200), 1))]
@@ -1081,6 +1099,18 @@ def minus_make(size):
         given.commit([f"d:{chain}/{objects - 1}#v@1"])
         given.check(f"d:{chain}/0#v@1", True, [])
         chain += 1
+    return given
+
+
+def barred_make(size):
+    """Documents that each bar the user by three steps, and by a group of many groups that the user is in none of."""
+    doc = {"name": "d", "relations": [relation("banned"), {**relation("v", {"exclusion": {"base": THIS, "subtract": {"computed": "banned"}}}), "stratum": 1}]}
+    given = Input(size, [{"name": "g", "relations": [relation("m")]}, doc, {"name": "top", "relations": [{**relation("m"), "stratum": 1}]}])
+    count = size // 500
+    for k in range(count):
+        given.commit([f"g:hub#m@g:{k}#m", f"g:{k}#m@g:{k}/in#m", f"g:{k}/a#m@g:{k}/b#m", f"g:{k}/b#m@g:{k}/c#m", f"g:{k}/c#m@1",
+                      f"d:{k}#banned@g:hub#m", f"d:{k}#banned@g:{k}/a#m", f"d:{k}#v@1", f"top:all#m@d:{k}#v"])
+    given.check("top:all#m@1", False, [])
     return given
 
 
@@ -1226,6 +1256,7 @@ KINDS = {
     "ring": ring,
     "wide_make": wide_make,
     "nested_make": nested_make,
+    "parts_make": parts_make,
     "through_make": through_make,
     "few_make": few_make,
     "each_declares": each_declares,
@@ -1237,6 +1268,7 @@ KINDS = {
     "three_steps": three_steps,
     "given_up": given_up,
     "minus_make": minus_make,
+    "barred_make": barred_make,
     "toggled": toggled,
     "ids": ids,
     "chain": lambda size: rings(size, 1, False),
@@ -1251,8 +1283,8 @@ KINDS = {
 }
 
 # Those whose evidence the auditor makes: they have none.
-FOR_MAKE = ("ring", "wide_make", "nested_make", "through_make", "few_make", "each_declares", "unread_through", "late_through", "wide_groups", "many_make", "small_sets",
-            "three_steps", "given_up", "minus_make")
+FOR_MAKE = ("ring", "wide_make", "nested_make", "parts_make", "through_make", "few_make", "each_declares", "unread_through", "late_through",
+            "wide_groups", "many_make", "small_sets", "three_steps", "given_up", "minus_make", "barred_make")
 
 
 def main():

@@ -77,6 +77,22 @@ pub(crate) fn layer_of(
     Ok(layer)
 }
 
+/// Those of some places that are of a stratum.
+pub(crate) fn places_of(
+    alloc: Global,
+    strata: &[Option<u8>],
+    stratum: u16,
+    order: &[usize],
+) -> Result<Vec<usize>, AllocError> {
+    let mut places = Vec::new(alloc);
+    for place in order {
+        if is_at(strata, *place, stratum) {
+            places.push(*place)?;
+        }
+    }
+    Ok(places)
+}
+
 /// The higher of a stratum and of that at a place.
 fn higher_at(strata: &[Option<u8>], place: usize, top: u8) -> u8
     ensures top { top ≤ result }

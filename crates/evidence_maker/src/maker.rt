@@ -17,16 +17,15 @@ ghost use Rattle.evidence_maker.specs.Made.{Settles, Fits, IsRecord, IsOneStep, 
 
 use crate::fault::MakeFault;
 use crate::like::{Found, made_like};
-use crate::needed::needed_steps;
 use crate::settle::settle;
 use evidence_check::{AskedRules, Judged, Step, Steps, has_too_many, judge_steps_by};
-use goal_cone::{Leaves, Settled, direct_search, explore_by};
-use goal_gates::{Gates, KeptRules};
+use goal_cone::{Leaves, Search, Settled, WideRules, explore_by};
 use record_text::record_bytes;
+use snapshots::Snapshot;
 use std::alloc::{AllocError, Global};
 use std::marker::Model;
 use trace_lines::{Entry, Trace};
-use tuple_text::FactRef;
+use tuple_text::{Fact, FactRef};
 
 /// Steps that are made for an entry, and how they judge it.
 #[derive(Drop)]
@@ -100,11 +99,23 @@ fn steps_of(alloc: Global, settled: Vec<Settled>) -> Result<Steps, AllocError> {
     Ok(steps)
 }
 
+/// What a search settles of an entry's goal.
+fn searched<'t>(
+    alloc: Global,
+    trace: &'t Trace,
+    rules: &mut WideRules<'t>,
+    entry: &Entry<'_>,
+) -> Result<Option<Vec<Settled>>, AllocError> {
+    let snapshot = trace.timeline().at(entry.snapshot);
+    Search::new(alloc, &snapshot, rules, entry.goal.user()).settle(entry.goal.set())
+}
+
 /// Evidence that is found without a look at the goal's whole cone: by the way that was found for another entry, or by
 /// a direct search.
-fn made_soon(
+fn made_soon<'t>(
     alloc: Global,
-    asked: &mut AskedRules<'_>,
+    asked: &mut AskedRules<'t>,
+    rules: &mut WideRules<'t>,
     entry: &Entry<'_>,
     found: Option<Found<'_>>,
 ) -> Result<Option<Made>, AllocError>
@@ -114,11 +125,21 @@ fn made_soon(
     if let Some(made) = made_like(alloc, asked, entry, found)? {
         return Ok(Some(made));
     }
-    let snapshot = asked.trace().timeline().at(entry.snapshot);
-    match direct_search(alloc, &snapshot, entry.goal)? {
+    match searched(alloc, asked.trace(), rules, entry)? {
         Some(settled) => made_of(asked, entry, steps_of(alloc, settled)?),
         None => Ok(None),
     }
+}
+
+/// The places of the facts of a cone that hold by a search, in the order in which that showed.
+fn order_of<'t>(
+    alloc: Global,
+    snapshot: &Snapshot<'t>,
+    rules: &mut WideRules<'t>,
+    user: u64,
+    cone: &[Fact],
+) -> Result<Vec<usize>, AllocError> {
+    Search::new(alloc, snapshot, rules, user).order_of(cone)
 }
 
 /// The goal does not hold, said in one step.
@@ -137,7 +158,7 @@ fn made_for<'t>(
     alloc: Global,
     asked: &mut AskedRules<'t>,
     leaves: &mut Leaves<'t>,
-    rules: &mut KeptRules<'t>,
+    rules: &mut WideRules<'t>,
     entry: &Entry<'_>,
     found: Option<Found<'_>>,
 ) -> Result<Made, MakeFault>
@@ -157,18 +178,14 @@ fn made_for<'t>(
     if let Some(made) = made_of(asked, entry, no)? {
         return Ok(made);
     }
-    if let Some(made) = made_soon(alloc, asked, entry, found)? {
+    if let Some(made) = made_soon(alloc, asked, rules, entry, found)? {
         return Ok(made);
     }
     let snapshot = asked.trace().timeline().at(entry.snapshot);
     let goal = entry.goal.to_fact(alloc)?;
     let cone = explore_by(alloc, leaves, &snapshot, &goal)?;
-    let mut gates = Gates::of(alloc, &snapshot, &cone, leaves, rules)?;
-    let steps = settle(alloc, asked, entry.snapshot, &cone, &mut gates)?;
-    let short = needed_steps(alloc, &mut gates, &steps)?;
-    if let Some(made) = made_of(asked, entry, short)? {
-        return Ok(made);
-    }
+    let order = order_of(alloc, &snapshot, rules, entry.goal.user(), &cone)?;
+    let steps = settle(alloc, asked, entry.snapshot, &cone, &order)?;
     match made_of(asked, entry, steps)? {
         Some(made) => Ok(made),
         None => Err(MakeFault::GaveUp),
@@ -176,13 +193,13 @@ fn made_for<'t>(
 }
 
 /// It makes evidence for the entries of a trace, and keeps the leaves of rules, what it asked of rules of many
-/// places, and which of their parts open them, for the entries behind.
+/// places, and what their parts read, for the entries behind.
 #[derive(Drop)]
 pub struct Maker<'t> {
     alloc: Global,
     asked: AskedRules<'t>,
     leaves: Leaves<'t>,
-    rules: KeptRules<'t>,
+    rules: WideRules<'t>,
 }
 
 impl<'t> Model for Maker<'t> {
@@ -208,7 +225,7 @@ impl<'t> Maker<'t> {
             alloc,
             asked: AskedRules::new(alloc, trace),
             leaves: Leaves::new(alloc, trace.rules()),
-            rules: KeptRules::new(alloc),
+            rules: WideRules::new(alloc, trace.rules()),
         }
     }
 

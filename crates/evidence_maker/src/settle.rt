@@ -11,9 +11,8 @@ ghost use Rattle.goal_cone.specs.Cone.{HasItsPremises, AreDistinct};
 ghost use Rattle.evidence_maker.specs.Making.{IsMakingAt, IsKnown, IsSifted, AreLeft, IsMade, stratum_of};
 ghost use Rattle.evidence_maker.specs.Saturation.{AreUnsettled};
 
-use crate::layers::{layer_of, strata_of, top_of, well_formed};
+use crate::layers::{layer_of, places_of, strata_of, top_of, well_formed};
 use evidence_check::{AskedRules, Step, Steps, is_proved_by};
-use goal_gates::Gates;
 use judgement::Known;
 use std::alloc::{AllocError, Global};
 use trace_lines::Trace;
@@ -193,13 +192,13 @@ fn settle_stratum(
     leave(asked.trace(), at, left, known, steps)
 }
 
-/// Steps that settle each fact of a cone, in the order in which its gates open.
+/// Steps that settle each fact of a cone. Of a stratum those are looked at first that stand in an order, as they do.
 pub(crate) fn settle(
     alloc: Global,
     asked: &mut AskedRules<'_>,
     at: u64,
     cone: &[Fact],
-    gates: &mut Gates<'_, '_>,
+    order: &[usize],
 ) -> Result<Steps, AllocError>
     ensures asked { asked.new ≡ asked.old }
     ensures made { IfOk result (λ v.
@@ -214,7 +213,7 @@ pub(crate) fn settle(
     let mut steps = Vec::new(alloc);
     let end = top_of(strata) as u16 + 1;
     for stratum in 0..end {
-        let places = gates.tell(strata, stratum)?;
+        let places = places_of(alloc, strata, stratum, order)?;
         settle_stratum(
             asked, at, cone, strata, stratum, &places, &mut known, &mut steps,
         )?;

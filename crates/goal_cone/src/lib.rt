@@ -10,14 +10,14 @@
 //! (`AreTargets`), where it is given the namespaces that declare them; [`Leaves`] notes these with each part of a rule
 //! (`IsNoted`).
 //!
-//! [`direct_search`] goes forward from a goal up to what settles it, and gives the facts on which that rests, in their
-//! order, or gives up after so many facts and stored usersets. Nothing is promised of it.
+//! [`Search`] goes forward from a goal up to what settles it, and gives the facts on which that rests, in their order,
+//! or gives up past the bounds of a cone. Nothing is promised of it, but that each call comes to an end.
 //!
-//! What a call costs is no promise. To find a cone recurs over rules alone, never over facts, and a direct search over
-//! both, up to a bound. The memory is that of the cone, and a look-up among facts goes by their marks. What is stored
+//! What a call costs is no promise. To find a cone, and to search, recurs over rules alone, never over facts. The
+//! memory is that of the cone, or of what was searched, and a look-up among facts goes by their marks. What is stored
 //! in a tupleset is gone over once for all relations that a rule of a cone reads through it, and where many usersets
-//! were stored there, what is dead or declares none of them is not. [`Leaves`] keeps what was read of rules for the
-//! next goals.
+//! were stored there, what is dead or declares none of them is not. [`Leaves`] and [`WideRules`] keep what was read of
+//! rules, and which of their parts open them, for the next goals.
 //!
 //! ```text
 //! let mut leaves = Leaves::new(alloc, snapshot.timeline.rules());
@@ -25,18 +25,26 @@
 //! ```
 #![tactic(auto)]
 
-mod answers;
 mod cone;
 mod fault;
+mod groups;
+mod kept;
 mod leaves;
+mod needed;
+mod nodes;
 mod premises;
+mod runs;
 mod search;
 mod seen;
 mod through;
+mod walks;
+mod wide;
 
 pub use cone::{explore, explore_by};
 pub use fault::ConeFault;
+pub use kept::WideRules;
 pub use leaves::{Leaves, ReadPart};
+pub use needed::Settled;
 pub use premises::{MAX_LINKS, MAX_USERSETS};
-pub use search::{Settled, direct_search};
+pub use search::Search;
 pub use through::targets;

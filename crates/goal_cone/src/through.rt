@@ -25,7 +25,7 @@ use tuple_text::SetRef;
 use userset_index::Numbers;
 
 /// The relation that is read at a place, where a namespace declares it at a timestamp.
-fn declared_at<'s>(
+pub(crate) fn declared_at<'s>(
     rules: &Rules,
     through: &'s Through,
     namespace: &str,
@@ -112,7 +112,7 @@ fn read_of<'s>(
 }
 
 /// Whether a namespace may declare a relation that is read, where those that do are among some.
-fn may_declare(rules: &Rules, namespace: &str, declaring: Numbers) -> bool
+pub(crate) fn may_declare(rules: &Rules, namespace: &str, declaring: Numbers) -> bool
     ensures { result ≡ false → (names : List (List ℕ)) (at : ℕ) → HaveDeclaring rules.now names declaring → at < 2 ^ 64
         → DeclaresNone (rule_at rules.now at) names namespace.now }
 {
@@ -222,7 +222,7 @@ fn are_apart(stored: Option<Numbers>, declaring: Numbers) -> bool
 
 /// Usersets that are stored in a tupleset, each once, among them one of the object of each whose namespace declares a
 /// relation that is read.
-fn objects<'s>(
+pub(crate) fn objects<'s>(
     alloc: Global,
     snapshot: &'s Snapshot<'_>,
     tupleset: MarkedSet<'s>,

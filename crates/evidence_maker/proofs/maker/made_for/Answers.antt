@@ -15,11 +15,11 @@ returns-clause-gave_up c = λ gave.
     let ss = step_values c.in_ok-steps.steps.items in
     let one = c.in_ok-made.ensures.asked in
     let three = c.in_ok-made-3.ensures.asked ∙ (c.in_ok-made-2.ensures.asked ∙ one) in
-    let five = c.in_ok-made-4.ensures.asked ∙ (c.in_ok-steps.ensures.asked ∙ three) in
+    let four = c.in_ok-steps.ensures.asked ∙ three in
     let no_yes : ¬ IsRecord t e (yes_step e.goal ∷ []) = rw c.in_ok-yes.ensures at (c.in_ok-made.ensures.none (search rules)) in
     let no_no : ¬ IsRecord t e (no_step (e.goal ∷ []) ∷ []) = rw (c.in_ok-no.ensures, one) at (c.in_ok-made-2.ensures.none (search rules)) in
     let more : ¬ IsOneStep t e = one_step_fails t e c.requires.line c.requires.goal no_yes no_no in
-    let no_record : ¬ IsRecord t e ss = rw five at (c.in_ok-made-5.ensures.none c.in-None.is) in
+    let no_record : ¬ IsRecord t e ss = rw four at (c.in_ok-made-4.ensures.none c.in-None.is) in
     let cone = rw (c.at-snapshot.ensures, c.timeline.ensures, c.trace.ensures, three, c.in_ok-goal.ensures) at c.in_ok-cone.ensures.cone in
     let settled = rw (c.deref-2.ensures.value, three) at c.in_ok-steps.ensures.made in
     (more, outgrown_made t e c.in_ok-cone.cone.items ss cone (settled cone.premises c.in_ok-cone.ensures.distinct) 4194304 more no_record)

@@ -1,14 +1,32 @@
 //! What a rule of many places reads, and which of its parts do.
 //!
 //! A part may read many relations, and one of them may be read by many parts. What is read by the same parts has one
-//! group, the parts that open with it. So a premise of a fact is one link to the fact's gate, however many parts of the
-//! rule read it.
+//! group, the parts that open with it. So what a fact reads is one link, however many parts of the rule read it.
 
-use crate::premises::Reading;
-use marks::Places;
+use marks::{MarkedSet, Places};
 use rewrites::{Part, Rewrite, Through};
 use std::alloc::{AllocError, Global};
 use std::collections::BTreeMap;
+use tuple_text::SetRef;
+
+/// A relation that is read through a tupleset.
+#[derive(Clone, Copy, Drop, PartialEq, Eq)]
+pub(crate) struct Reading<'a> {
+    pub(crate) tupleset: &'a str,
+    pub(crate) relation: &'a str,
+}
+
+impl<'a> Reading<'a> {
+    /// Equal ones have equal marks.
+    fn mark(self) -> u64 {
+        let texts = SetRef {
+            namespace: self.tupleset,
+            id: "",
+            relation: self.relation,
+        };
+        MarkedSet::of(texts).mark
+    }
+}
 
 /// Parts that open together: the last one, and the group of the others.
 #[derive(Clone, Copy, Drop)]
@@ -42,7 +60,7 @@ pub(crate) struct Groups {
 }
 
 /// What a part reads through a tupleset.
-fn reading_at(parts: &[Part], read: Read) -> Option<Reading<'_>> {
+pub(crate) fn reading_at(parts: &[Part], read: Read) -> Option<Reading<'_>> {
     match parts.get(read.part)? {
         Part::Leaf(Rewrite::TupleTo { tupleset, computed }) => {
             Some(Reading {

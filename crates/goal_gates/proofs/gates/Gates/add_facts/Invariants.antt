@@ -1,5 +1,0 @@
-use Rattle.std.specs.Prelude.{◌≡◌}
-use Rattle.goal_gates.proofs.gates.Gates.add_facts.Given as goal
-
-abbrev pub invariant-loop-place : goal.invariant-loop-place
-invariant-loop-place l = l.leaves.declarations ≡ l.fn.leaves.declarations
