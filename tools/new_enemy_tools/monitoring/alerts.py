@@ -103,7 +103,8 @@ class Stories:
 def key_of(run: Run, told: Told) -> str:
     """What a story is known by in any run over the same log."""
     entry = told.entry
-    by = run.change_of(told) if told.outcome is not None else told.finding.finding
+    # The folder of a log may be another one by then.
+    by = (run.change_of(told) or "").rpartition("/")[2] if told.outcome is not None else told.finding.finding
     parts = [entry.kind, run.names.tuple(entry.goal), entry.reply, told.effect.word, told.outcome, by]
     return blake2b(json.dumps(parts).encode(), digest_size=8).hexdigest()
 

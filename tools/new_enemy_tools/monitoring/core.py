@@ -67,6 +67,8 @@ class Core:
         self.gaps = 0
         # bounds that are passed now
         self.passed: dict[str, bool] = {"lag": False, "loss": False}
+        # why the monitor before this one stopped, until this one has come to the end of the log
+        self.stopped_by: Optional[str] = None
         # of the runs by their numbers the stories that were told
         self._told: dict[int, dict[str, Known]] = {}
         self._read(rows)
@@ -89,12 +91,15 @@ class Core:
     def _note(self, row: Row) -> None:
         """What a kept row says of stories and bounds."""
         self.passed.update(row.get("passed", {}))
+        self.stopped_by = row.get("stopped_by", self.stopped_by)
         if "alert" not in row:
             return
         text, told = row["text"], self._told.setdefault(row["run"], {})
         if row.get("story"):
             is_first = text["kind"] == "finding"
             told[row["story"]] = Known(row["alert"] if is_first else text["first"], text["id"] if is_first else text["first_id"], 0, text["count"])
+        elif text["kind"] == "stopped":
+            self.stopped_by = text.get("why")
         elif text["kind"] in self.passed:
             self.passed[text["kind"]] = text["state"] == "passed"
 
@@ -162,7 +167,10 @@ class Core:
     def look(self, wall: int) -> Iterator[Out]:
         """Looks whether a bound is passed. `wall` is the time in nanoseconds. A run that begins anew is looked at when it has come to the end
         of the log, or has not for as long as replies may wait."""
-        lag, coverage = self.lag(wall), self.run.stream.coverage()
+        if self.stopped_by is not None:
+            self.stopped_by = None
+            yield from self._stop("ended", "the monitor audits again", None)
+        lag, coverage = self.lag(wall), self.coverage()
         yield from self._bound("lag", lag, self.settings.most_lag, "a reply of %.1f seconds ago is not audited yet" % lag)
         loss = 0.0 if coverage.is_empty or coverage.is_whole else coverage._replace(open=0).percent
         yield from self._bound("loss", loss, self.settings.most_loss, "%s; that is %.2f percent that was not looked at whole" % (
@@ -179,9 +187,14 @@ class Core:
                 "said": "%s: %s" % ("%s is within its bound again" % name if is_passed else "%s is above %g" % (name, most), said)})])
 
     def stopped(self, why: str) -> Iterator[Out]:
-        """An alert that the monitor can't go on."""
-        yield from self._put([Alert(self.next, None, {"alert": self.next, "id": "stopped-%d" % self.next, "kind": "stopped",
-                                                      "said": "the monitor stopped, and nothing is audited: %s" % why})])
+        """An alert that the monitor can't go on; once, however often it is begun again."""
+        if why != self.stopped_by:
+            self.stopped_by = why
+            yield from self._stop("passed", "the monitor stopped, and nothing is audited: %s" % why, why)
+
+    def _stop(self, state: str, said: str, why: Optional[str]) -> Iterator[Out]:
+        text = {"alert": self.next, "id": "stopped-%d" % self.next, "kind": "stopped", "state": state, "said": said}
+        yield from self._put([Alert(self.next, None, text if why is None else {**text, "why": why})])
 
     def _put(self, alerts: list[Alert]) -> Iterator[Out]:
         for alert in alerts:
@@ -203,7 +216,7 @@ class Core:
         return max(0.0, (wall - min(times)) / 1e9) if times else 0.0
 
     def coverage(self) -> Coverage:
-        return self.run.stream.coverage()
+        return self.run.coverage()
 
     def kept_rows(self) -> Iterator[Row]:
         """What a journal still needs at the beginning of a run, which knows the stories itself: alerts that some receiver has not got."""
@@ -215,4 +228,4 @@ class Core:
                 texts[send.number] = send.text
         for number in sorted(waiting):
             yield {"alert": number, "run": 0, "story": None, "to": waiting[number], "text": json.loads(texts[number])}
-        yield {"next": self.next, "passed": self.passed}
+        yield {"next": self.next, "passed": self.passed, "stopped_by": self.stopped_by}

@@ -1,13 +1,14 @@
 """A run of a monitor, as of a day: lines of a log in, lines of a trace out; and what a program that follows these says in, findings with
 their effects out. It has no file, process or clock."""
 import re
-from collections import deque
+from collections import Counter, deque
 from typing import Callable, NamedTuple, Optional
 
 from new_enemy_tools.coverage import Coverage
 from new_enemy_tools.effects import Told
 from new_enemy_tools.findings import ON_TOKENS, Finding, Report, finding_of
 from new_enemy_tools.ids import Ids
+from new_enemy_tools.importing import causes
 from new_enemy_tools.importing.going_on import Left
 from new_enemy_tools.limits import LINE_BYTES
 from new_enemy_tools.looked import Looked
@@ -85,7 +86,7 @@ class Run:
         self._output: list[Finding] = []
         self._sums: list[str] = []
         self._carry: Optional[Carry] = None
-        self._early = 0
+        self._early = self._let_go = 0
 
     # Lines of the log
 
@@ -173,7 +174,10 @@ class Run:
             return
         finding = found._replace(line=self.numbers.of(found.line), related=None if found.related is None else self.numbers.of(found.related))
         # Such an entry is counted as not audited, or as audited in part, and has no finding.
-        if finding.line in self.window.low or finding.finding == "F6" and self.window.old.head.has_dropped:
+        if finding.line in self.window.low:
+            return
+        if finding.finding == "F6" and self.window.old.head.has_dropped:
+            self._let_go += 1
             return
         # What no commit settled is told with the next run.
         if self._carry is not None and (finding.line in self._carry.held or finding.line in self._carry.given_up):
@@ -215,6 +219,11 @@ class Run:
         high = ignored(self.trace, self.trace.entries[finding.line], finding.finding).high
         return bool(self.trace.commits) and high <= self.trace.commits.ats[-1]
 
+    def coverage(self) -> Coverage:
+        """What of the lines so far was looked at: by the import, and of what it placed by the state that the run began with."""
+        struck, in_part = Counter({causes.SNAPSHOT_TOO_OLD: len(self.window.low)}), {causes.VERSION_LET_GO: self._let_go}
+        return self.stream.coverage().plus(Coverage(0, {cause: count for cause, count in in_part.items() if count})).without(+struck)
+
     # The end
 
     def close(self, keep: Keep) -> Carry:
@@ -222,6 +231,10 @@ class Run:
         refuse_twice(self.window)
         self._carry, self._early = carried(self.window, keep, {}), len(self._output)
         return self._carry
+
+    @property
+    def is_closed(self) -> bool:
+        return self._carry is not None
 
     def held(self) -> list[tuple[str, str]]:
         """Of entries that the next run has too what was found before the end, by where these stand in the log."""

@@ -12,7 +12,7 @@ from new_enemy_tools.monitoring.stream import Chunk
 
 PIECE = 1 << 20
 NAME = re.compile(r"([0-9]{6,})\.jsonl(?:\.gz)?")
-LOG, CLOSED = b'{"event":"log"', b'{"event":"closed"'
+START, LOG, CLOSED = b'{"event":"', b'{"event":"log"', b'{"event":"closed"'
 
 
 class Place(NamedTuple):
@@ -25,7 +25,8 @@ class Place(NamedTuple):
 
 class Tail:
     def __init__(self, folder: str, place: Place):
-        self.folder, self.service = folder, ""
+        self.folder = folder
+        self.service: Optional[str] = None
         self.number, self.before, self._skip = place.file, place.before, place.lines
         # of each file that may be named in a place its hash of the one before
         self.befores: dict[int, Optional[str]] = {place.file: place.before}
@@ -50,6 +51,15 @@ class Tail:
     def here(self) -> Place:
         """The place behind all that was read."""
         return Place(self.number, self._count, self.befores[self.number])
+
+    def first_service(self) -> Optional[str]:
+        """Of which service the log is, by the first line that is there; None where none is there yet."""
+        if self.service is None and self._open():
+            assert self._file is not None
+            self._file.seek(0)
+            line = self._file.readline(PIECE)
+            self.service = str(_value(line).get("service")) if line.endswith(b"\n") else None
+        return self.service
 
     def forget(self, before: int) -> None:
         self.befores = {number: one for number, one in self.befores.items() if number >= before}
@@ -131,7 +141,10 @@ class Tail:
             raise MonitorFault("%s was taken away, or is another file now; begin another folder of the monitor" % path)
 
     def _check(self, path: str, lines: bytes, first: int) -> None:
-        """Looks at the lines of the chain."""
+        """Looks at the lines of the chain, and that each is one as a recorder writes them."""
+        if not lines.startswith(START) or lines.count(b"\n" + START) + 1 != lines.count(b"\n"):
+            odd = next(place for place, line in enumerate(lines.split(b"\n")) if not line.startswith(START))
+            raise MonitorFault("%s:%d: the line is none that tools/record writes; give the folder as its recorder left it" % (path, first + odd))
         if first == 1:
             self._check_head(path, lines[:lines.find(b"\n")])
         at = lines.rfind(b"\n", 0, -1) + 1
@@ -152,7 +165,6 @@ class Tail:
             raise MonitorFault("%s:1: this is no file of a recorder's log; give the folder that tools/ne record writes (--out)" % path)
         if head.get("before") != self.before:
             raise MonitorFault("%s:1: it goes on from another file than the one before it; give the files of one log, as tools/record wrote them" % path)
-        self.service = str(head.get("service"))
 
 
 def _value(line: bytes) -> dict[str, Any]:
