@@ -8,7 +8,7 @@ from collections import Counter
 
 from new_enemy_tools.ids import Ids
 from new_enemy_tools.meaning import Settled
-from new_enemy_tools.monitoring.core import Core, EndRun, Feed, Keep, Left, Settings
+from new_enemy_tools.monitoring.core import BeginAnew, Core, EndRun, Feed, Keep, Left, Settings
 from new_enemy_tools.monitoring.delivery import Send
 from new_enemy_tools.monitoring.holding import Holding
 from new_enemy_tools.monitoring.run import Begun, Run
@@ -87,12 +87,12 @@ class Life:
         self.core = Core(settings, disk.rows)
         self.begin(None)
 
-    def begin(self, holding):
+    def begin(self, holding, stop=None):
         begun, left, at = self.disk.runs[-1]
         self.own, self.follow, self.feeds = [], Follow(), False
         self.run = Run(Begun(begun.left, begun.state, copy.deepcopy(begun.ids)), self.has_between, lambda line: self.own[line - 1 - begun.state.head.lines])
         if holding is None:
-            holding, self.at = Holding(self.core.settings.hold, len(self.disk.runs) > 1), at
+            holding, self.at = Holding(self.core.settings.hold, len(self.disk.runs) > 1, stop), at
         self.core.begin(self.run, len(self.disk.runs), left, holding, self.now)
 
     def step(self):
@@ -116,6 +116,8 @@ class Life:
                 self.do(self.core.answered(out.receiver, out.number, answer, self.now))
             elif isinstance(out, EndRun):
                 self.end()
+            elif isinstance(out, BeginAnew):
+                self.begin(None, out.stop)
 
     def hear(self, lines):
         for line in lines:
@@ -128,15 +130,16 @@ class Life:
         for line in self.follow.take(b"", True):
             self.core.said(line, self.now)
         self.do(self.core.tell(self.now, True))
+        counts = self.core.counts - self.core.ended
         left, at = self.core.leave(), self.at - len(self.core.holding.lines)
         begun = Begun(self.run.stream.leave(), State(carry.head, carry.rows, None), self.run.begun.ids)
         self.step()
         self.disk.runs.append((begun, json_left(left), at))
-        self.disk.counts.update(self.core.counts)
-        self.core.counts.clear()
+        self.disk.counts.update(counts)
         self.step()
         self.disk.rows[:] = list(self.core.kept_rows())
         self.step()
+        self.core.holding.stop = None
         self.begin(self.core.holding)
 
     def live(self):

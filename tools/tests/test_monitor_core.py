@@ -38,30 +38,53 @@ class Simulated(CoreCase):
         told = self.run_tool("report", "--form", "jsonl", "trace.jsonl", self.put("report", run.stdout))
         return Counter(row["finding"] for row in map(json.loads, told.stdout.splitlines()[1:]))
 
+    def compare(self, log, random, has_between, number):
+        """What an unbroken monitor tells, which is what one tells that is killed; and how often that was."""
+        whole, counts, _ = told_by(lines_of(log), random, 0.0, has_between)
+        found = Counter()
+        for (finding, _), count in counts.items():
+            found[finding] += count
+        self.assertEqual(found, self.findings(log), number)
+        broken, _, lives = told_by(lines_of(log), random, 0.01, has_between)
+        wanted = {row["id"]: row for row in whole["two"]}
+        self.assertEqual(len(wanted), len(whole["two"]), "told twice")
+        self.assertEqual([row["id"] for row in whole["one"]], [row["id"] for row in whole["two"]])
+        for rows in broken.values():
+            told = {row["id"]: row for row in rows}
+            self.assertEqual(set(told), set(wanted), number)
+            for key, row in told.items():
+                self.assertEqual([row.get(name) for name in NAMES], [wanted[key].get(name) for name in NAMES])
+        return whole["two"], lives
+
     def test_kills_at_any_moment(self):
         kinds, killed = Counter(), 0
         for number in range(SEEDS):
             random, has_between = Random("monitor %d" % number), number % 4 == 3
-            log = log_of(random, has_between)
-            whole, counts, _ = told_by(lines_of(log), random, 0.0, has_between)
-            found = Counter()
-            for (finding, _), count in counts.items():
-                found[finding] += count
-            self.assertEqual(found, self.findings(log), number)
-            broken, _, lives = told_by(lines_of(log), random, 0.01, has_between)
-            wanted = {row["id"]: row for row in whole["two"]}
-            self.assertEqual(len(wanted), len(whole["two"]), "told twice")
-            self.assertEqual([row["id"] for row in whole["one"]], [row["id"] for row in whole["two"]])
-            for rows in broken.values():
-                told = {row["id"]: row for row in rows}
-                self.assertEqual(set(told), set(wanted), number)
-                for key, row in told.items():
-                    self.assertEqual([row.get(name) for name in NAMES], [wanted[key].get(name) for name in NAMES])
-            kinds.update(row["kind"] for row in whole["two"])
+            told, lives = self.compare(log_of(random, has_between), random, has_between, number)
+            kinds.update(row["kind"] for row in told)
             killed += lives
         self.assertGreater(killed, SEEDS)
         self.assertGreater(kinds["finding"], SEEDS)
         self.assertGreater(kinds["again"], SEEDS // 4)
+
+    def test_other_strata(self):
+        """A tuple by which a relation stands on what it did not stand on before ends the run before it."""
+        for number in range(6):
+            random = Random("strata of a monitor %d" % number)
+            log = log_of(random, False)
+            place = random.randint(20, 50)
+            revision = max(event.get("revision", 0) for event in log[:place])
+            for event in log[place:-1]:
+                for key in ("revision", "snapshot", "token"):
+                    if event.get(key, 0) > revision:
+                        event[key] += 1
+            log.insert(place, write(revision + 1, rel("staff", "member", "1", "doc", "reader", of="team"), time=log[place].get("time")))
+            whole, counts, _ = told_by(lines_of(log), random, 0.0, False)
+            broken, again, _ = told_by(lines_of(log), random, 0.01, False)
+            for found in counts, again:
+                self.assertEqual(sum((Counter({finding: count}) for (finding, _), count in found.items()), Counter()), self.findings(log))
+            # Where the runs end hangs on which lines came together.
+            self.assertEqual(*({row["id"].partition(".")[0] for row in told["two"]} for told in (whole, broken)))
 
 
 # Which of a story's requests, and which finding of it, is told first hangs on what came together.

@@ -64,3 +64,75 @@ class Streamed(CoreCase):
         for number in range(20):
             random = Random("stream between %d" % number)
             self.compare([RULES, BASE, *events_of(random, 60, True)], random, True)
+
+    def test_gaps_that_are_told_later(self):
+        """A check of a version that nobody issued waits for a line that may say why; what was issued in a gap is not said to be unknown."""
+        found, parts = "", 0
+        for number in range(20):
+            random = Random("stream gap %d" % number)
+            log = [{**event, "time": "2026-11-26T10:00:%02dZ" % place} for place, event in enumerate(events_of(random, 58))]
+            last = max(event.get("revision", 0) for event in log)
+            for _ in range(3):
+                place = random.randrange(len(log))
+                named = {**check(0, False, rel("1", "viewer", "none")), "version": "lost %d" % random.randrange(9), "time": log[place]["time"]}
+                log.insert(place, named)
+            if number % 3:
+                place = random.randrange(20, len(log))
+                since = log[random.randrange(place)]["time"]
+                log.insert(place, {"event": "gap", "from": since, "to": log[place]["time"], "reason": "it was full", "lost": 1})
+            found += self.compare([RULES, BASE, *log, write(last + 1)], random, number % 2 == 0)
+            parts += self.get("trace.jsonl").count('"part"')
+        self.assertIn("F6", found)
+        self.assertGreater(parts, 10)
+
+
+class Held(CoreCase):
+    """What can be taken of lines, one by one."""
+
+    def ready(self, holding, events, now, issues=lambda *_: False, first=1):
+        holding.put(Chunk("log", first, b"".join(lines_of(events))), now)
+        return self.taken(holding, now, issues)
+
+    def taken(self, holding, now, issues=lambda *_: False):
+        return [json.loads(line)["event"] for chunk in holding.ready(issues, -1, now).chunks for line in chunk.data.splitlines()]
+
+    def test_the_base_state(self):
+        holding = Holding(30.0, False)
+        self.assertEqual(self.ready(holding, [RULES, BASE, BASE], 0.0), [])
+        self.assertEqual(self.ready(holding, [PLACE], 100.0), ["rules", "write", "write", "place"])
+
+    def test_the_last_write(self):
+        """Until another line comes, or for a moment."""
+        holding = Holding(30.0, True)
+        self.assertEqual(self.ready(holding, [check(0), write(1, rel())], 0.0), ["check"])
+        self.assertEqual(self.ready(holding, [write(1, rel("2"))], 0.1), [])
+        self.assertEqual(self.ready(holding, [check(1)], 0.2), ["write", "write", "check"])
+        self.assertEqual(self.ready(holding, [write(2, rel())], 0.3), [])
+        self.assertEqual(self.taken(holding, 0.3 + WRITE_WAIT), ["write"])
+
+    def test_states_to_come(self):
+        """A check, and all behind it, until the log has come to the states that it may have looked at; or for some seconds."""
+        holding = Holding(30.0, True)
+        self.assertEqual(self.ready(holding, [write(1), between(check(0), 1, 2, True), check(1)], 0.0), ["write"])
+        self.assertEqual(self.ready(holding, [write(2, rel()), check(2)], 1.0), ["check", "check", "write", "check"])
+        self.assertEqual(self.ready(holding, [between(check(0), 2, 9, True)], 2.0), [])
+        self.assertEqual(self.taken(holding, 2.0 + STATE_WAIT), ["check"])
+
+    def test_versions_that_nobody_issued(self):
+        holding, gap = Holding(30.0, True), {"event": "gap", "to": "2026-11-26T10:00:00Z", "reason": "it was full"}
+        named = {**check(0, False), "version": "v"}
+        self.assertEqual(self.ready(holding, [check(0), named, check(0)], 0.0), ["check"])
+        self.assertEqual(self.ready(holding, [gap], 9.0), ["check", "check", "gap"])
+        self.assertEqual(self.ready(holding, [named, check(0)], 10.0, lambda *_: True), ["check", "check"])
+        self.assertEqual(self.ready(holding, [content(0, "v", token=0), named], 11.0), ["content", "check"])
+        self.assertEqual(self.ready(holding, [named | {"version": "w"}], 12.0), [])
+        self.assertEqual(self.taken(holding, 41.9), [])
+        self.assertEqual(self.taken(holding, 42.0), ["check"])
+
+    def test_days(self):
+        """The lines of a day come before its end, also where both came together."""
+        holding = Holding(30.0, True)
+        days = [check(0, time="2026-11-%02dT00:00:00Z" % day) for day in (26, 26, 27, 28, 28)]
+        holding.put(Chunk("log", 1, b"".join(lines_of(days))), 0.0)
+        found = [holding.ready(lambda *_: False, -1, 0.0) for _ in range(4)]
+        self.assertEqual([([chunk.first for chunk in one.chunks], one.is_over) for one in found], [([1], True), ([3], True), ([4], False), ([], False)])

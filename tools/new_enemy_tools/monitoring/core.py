@@ -47,7 +47,13 @@ class EndRun(NamedTuple):
     why: str
 
 
-Out = Union[Feed, Keep, Send, EndRun]
+class BeginAnew(NamedTuple):
+    """The run has to end before a line, by its file and number, which it has taken already: so it is begun anew, up to there."""
+
+    stop: tuple[str, int]
+
+
+Out = Union[Feed, Keep, Send, EndRun, BeginAnew]
 
 
 class Left(NamedTuple):
@@ -62,7 +68,9 @@ class Core:
         self.settings = settings
         self.delivery = Delivery(settings.receivers)
         self.next = 1
+        # findings by kind and effect, in all; and in the runs that have ended
         self.counts: Counter[tuple[str, str]] = Counter()
+        self.ended: Counter[tuple[str, str]] = Counter()
         self.alerts: Counter[str] = Counter()
         self.gaps = 0
         # bounds that are passed now
@@ -105,7 +113,7 @@ class Core:
 
     def begin(self, run: Run, number: int, left: Left, holding: Holding, now: float) -> None:
         """Begins a run; or begins it anew, after a monitor that was killed in it."""
-        self.run, self.number, self.holding = run, number, holding
+        self.run, self.number, self.holding, self.counts = run, number, holding, Counter(self.ended)
         self.stories = Stories(self.settings.effects, left.stories, self._told.get(number, {}), now)
         self._held = set(left.held)
 
@@ -117,22 +125,21 @@ class Core:
     @property
     def has_room(self) -> bool:
         """Whether more of the log may be read."""
-        return self.holding.bytes < 1 << 22
+        return self.holding.has_room
 
     def move(self, now: float) -> Iterator[Out]:
         """Takes what can be taken of the lines that were read."""
         ready = self.holding.ready(self.run.stream.issues, self.run.stream.last_revision(), now)
-        for place, chunk in enumerate(ready.chunks):
+        for chunk in ready.chunks:
             try:
                 text = self.run.take(chunk)
             except NewStrata:
-                self.holding.give_back(list(ready.chunks[place:]), now)
-                yield EndRun("relations need other strata")
+                yield BeginAnew((chunk.file, chunk.first))
                 return
             if text:
                 yield Feed(text)
         if ready.is_over and self.run.bytes:
-            yield EndRun("the day is over")
+            yield EndRun("relations need other strata" if self.holding.stop is not None else "the day is over")
         elif self.run.bytes >= self.settings.day_bytes and ready.chunks:
             yield EndRun("the run is full")
 
@@ -200,12 +207,16 @@ class Core:
         for alert in alerts:
             self.next = max(self.next, alert.number + 1)
             self.alerts[alert.text["kind"]] += 1
-            yield Keep({"alert": alert.number, "run": self.number, "story": alert.story, "to": list(self.settings.receivers), "text": alert.text})
+            row: Row = {"alert": alert.number, "run": self.number, "story": alert.story, "to": list(self.settings.receivers),
+                        "text": alert.text}
+            self._note(row)
+            yield Keep(row)
             for receiver in self.settings.receivers:
                 self.delivery.put(Send(receiver, alert.number, line_of(alert.text)))
 
     def leave(self) -> Left:
         """What the next run knows of this one, when all of it is told."""
+        self.ended = Counter(self.counts)
         return Left(self.stories.leave(), self.run.held())
 
     # What is known

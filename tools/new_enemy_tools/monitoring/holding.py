@@ -25,6 +25,9 @@ STATE_WAIT = 5.0
 # So many lines are taken at once, where they can be cut so.
 LINES = 4_096
 
+# So many bytes are read ahead, and so many where lines are held.
+MOST, MOST_HELD = 4 << 20, 64 << 20
+
 Issues = Callable[[str, str, str], bool]
 
 
@@ -63,8 +66,9 @@ class Ready(NamedTuple):
 class Holding:
     """Places count all lines that were ever put here."""
 
-    def __init__(self, hold: float, is_begun: bool):
-        self.hold, self.is_begun = hold, is_begun
+    def __init__(self, hold: float, is_begun: bool, stop: Optional[tuple[str, int]] = None):
+        """`stop` is a line, by its file and number, before which the run has to end."""
+        self.hold, self.is_begun, self.stop = hold, is_begun, stop
         self.lines: deque[Line] = deque()
         self.bytes = 0
         self.day: Optional[bytes] = None
@@ -77,6 +81,11 @@ class Holding:
         self._newest: Optional[int] = None
         # the places of lines that begin another day
         self._days: deque[int] = deque()
+
+    @property
+    def has_room(self) -> bool:
+        """Whether more lines may be read: few ahead, and where some are held so many that what they wait for can come."""
+        return self.bytes < (MOST_HELD if self._unknown else MOST)
 
     @property
     def oldest(self) -> Optional[int]:
@@ -102,6 +111,9 @@ class Holding:
 
     def _see(self, line: Line, issues: Issues, now: float) -> None:
         raw, place = line.raw, self._seen
+        if self.stop == (line.file, line.number):
+            self._days.append(place)
+            self._cut(place)
         is_write = raw.startswith(WRITE)
         if not is_write and self._seen > self._taken and self._need <= self._last and self.is_begun:
             # No line has the revision of the write before it any more.
@@ -110,13 +122,20 @@ class Holding:
         if raw.startswith(CHECKS):
             self._see_check(raw, place, issues, now)
         elif raw.startswith(GAP) or raw.startswith(UNMAPPED) and b'"version":' in raw:
-            self._unknown.clear()
+            self._explain()
         elif raw.startswith(PLACE):
             self.is_begun = True
         elif is_write and (found := REVISION.search(raw)) is not None:
             self._last = max(self._last, int(found[1]))
         if not is_write and self._need <= self._last and self.is_begun:
             self._cut(self._seen)
+
+    def _explain(self) -> None:
+        """A line says why versions may be unknown that checks before it name; it is taken together with these."""
+        if self._unknown:
+            first = self._unknown[0].place
+            self._cuts = deque(place for place in self._cuts if place <= first)
+            self._unknown.clear()
 
     def _cut(self, place: int) -> None:
         if not self._cuts or self._cuts[-1] < place:
@@ -183,11 +202,3 @@ class Holding:
             if place == len(taken) or taken[place].file != taken[start].file:
                 yield Chunk(taken[start].file, taken[start].number, b"".join(line.raw for line in taken[start:place]))
                 start = place
-
-    def give_back(self, chunks: list[Chunk], now: float) -> None:
-        """Lines that were taken and are to be taken again, before all others."""
-        again = [Line(chunk.file, number, raw, now) for chunk in chunks for number, raw in enumerate(chunk.data.splitlines(True), chunk.first)]
-        others = list(self.lines)
-        self.__init__(self.hold, True)  # type: ignore[misc]
-        self.lines.extend(again + others)
-        self.bytes = sum(len(line.raw) for line in self.lines)

@@ -23,7 +23,7 @@ from new_enemy_tools.trace_lines import with_mark
 from new_enemy_tools.windowing.carrying import Carry
 from new_enemy_tools.windowing.days import MONITORED, Days, digest_of
 from new_enemy_tools.windowing.reading import Own
-from new_enemy_tools.windowing.run import Audited, Refused
+from new_enemy_tools.windowing.run import Audited
 from new_enemy_tools.windowing.telling import told_of
 
 
@@ -88,8 +88,6 @@ def keep(days: Days, given: Namespace, run: Run, carry: Carry, status: int, left
     coverage = run.stream.coverage()
     file.end(mark_of(coverage))
     answer = Answer(status, run.report(), "")
-    if status > 1:
-        raise Refused(answer)
     own = Own(file.path, run.begun.state, False)
     found = Audited(told_of(run.window, carry, run.numbers, answer), run.window, carry, run.carried).covered(own, coverage)
     write_whole(days.work("import.txt"), list(run.stream.told()))

@@ -10,7 +10,7 @@ from threading import Thread
 from typing import Any, Iterable, NamedTuple, Optional
 
 from new_enemy_tools.faults import DeviceFault
-from new_enemy_tools.monitoring.core import Core, EndRun, Feed, Keep, Out, Settings
+from new_enemy_tools.monitoring.core import BeginAnew, Core, EndRun, Feed, Keep, Out, Settings
 from new_enemy_tools.monitoring.faults import MonitorFault
 from new_enemy_tools.monitoring.follower import Ended, Follower, Said
 from new_enemy_tools.monitoring.holding import Holding
@@ -63,13 +63,13 @@ class Machine:
 
     # Runs
 
-    def _begin(self, holding: Optional[Holding]) -> None:
-        """Begins a run; the first of this monitor anew, from where the last one that was kept has ended."""
+    def _begin(self, holding: Optional[Holding], stop: Optional[tuple[str, int]] = None) -> None:
+        """Begins a run with the lines that are held; without these anew, from where the last one that was kept has ended, and up to a line."""
         start = start_of(self.days, self.way.options)
         number = 1 + (self.days.last or 0)
         if holding is None:
             self.tail = Tail(self.way.log, start.place)
-            holding = Holding(self.way.settings.hold, self.days.last is not None)
+            holding = Holding(self.way.settings.hold, self.days.last is not None, stop)
         self.file = RunFile(self.days.work("trace"), start.begun.state.head.lines)
         self.follower = Follower(self.way.options.program, number, self.inbox)
         self.is_fed = False
@@ -88,6 +88,8 @@ class Machine:
         carry = run.close(carrying.Keep(None, given.keep_snapshots, given.keep_versions))
         status = self.follower.end()
         self._hear_all()
+        if status not in (0, 1):
+            raise MonitorFault("the program refuses the trace: %s" % self.follower.fault())
         self._do(self.core.tell(now, True))
         self.journal.sync()
         line = self.core.holding.lines[0] if self.core.holding.lines else None
@@ -98,6 +100,7 @@ class Machine:
         self.tail.forget(place.file)
         tell("monitor: run %d has ended, since %s; %s" % (number, why, self.days.tell(number).splitlines()[-1]), sys.stderr)
         self.journal.replace(self.core.kept_rows())
+        self.core.holding.stop = None
         self._begin(self.core.holding)
 
     # What comes in
@@ -153,7 +156,8 @@ class Machine:
     # What is to be done
 
     def _do(self, outs: Iterable[Out]) -> None:
-        ended = None
+        ended: Optional[EndRun] = None
+        anew: Optional[BeginAnew] = None
         for out in outs:
             if isinstance(out, Feed):
                 self.file.add(out.data)
@@ -163,10 +167,15 @@ class Machine:
                 self.journal.add(out.row)
             elif isinstance(out, EndRun):
                 ended = out
+            elif isinstance(out, BeginAnew):
+                anew = out
             else:
                 self.journal.sync()
                 self.tellers[out.receiver].put(out)
-        if ended is not None:
+        if anew is not None:
+            self.follower.stop()
+            self._begin(None, anew.stop)
+        elif ended is not None:
             self._end_run(ended.why)
 
     def _look(self, now: float, is_more: bool) -> None:
