@@ -22,10 +22,13 @@ from random import Random
 from new_enemy_tools.commands.monitor import given_of
 from new_enemy_tools.monitoring.receivers import Syslog
 from tests.ports import free_port
+from tests.recorded import Client, Recorded
 from tests.support import EXAMPLES, NE
 from tests.test_core import check, content, rel, write
 from tests.test_going_on import RULES, events_of
-from tests.test_recording_openfga import MODEL, Loaded
+from tests.test_recording_openfga import MODEL
+from tests.test_recording_openfga import Loaded as OpenFgaLoaded
+from tests.test_recording_spicedb import Loaded as SpiceDbLoaded
 
 PROGRAM = os.path.abspath(os.environ["NEW_ENEMY"])
 KILLS = int(os.environ.get("KILLS", "20"))
@@ -54,7 +57,9 @@ def timed(events, day="2026-11-26"):
     return [{**event, "time": "%sT10:%02d:%02dZ" % (day, place // 60, place % 60)} for place, event in enumerate(events)]
 
 
-class MonitorCase(Loaded):
+class Monitoring(Recorded):
+    """Monitors as processes, over logs that recorders write or that are put there."""
+
     def monitor(self, *words, log="log", out="out", said="monitor.err", told="told"):
         """A monitor as a process; what it tells goes behind what earlier ones told."""
         files = [open(self.path(name), "a", encoding="utf-8") for name in (told, said)]
@@ -86,13 +91,30 @@ class MonitorCase(Loaded):
         self.assertIn(run.returncode, (0, 1, 6), run.stderr)
         return self.days_told("byday")
 
+    def assert_as_the_day(self):
+        """What the runs of the monitor and its alerts tell of the log that is there is what `ne day` tells."""
+        day, told = self.day(), self.told()
+        self.assertEqual(self.days_told("out/days"), day)
+        self.assertEqual(len({row["id"] for row in told}), len(told))
+        mattered = {one for one in day if one[2] in ("wrong", "changed", "undecided")}
+        self.assertTrue(mattered)
+        found = [row for row in told if row["kind"] == "finding"]
+        self.assertLessEqual({(row["from"], row["finding"], row["effect"], row.get("outcome")) for row in found}, mattered)
+        self.assertEqual({row["goal"] for row in found}, self.goals_of(mattered))
+
+    def goals_of(self, found):
+        """The questions of some findings of the days."""
+        places = {place for place, *_ in found}
+        rows = [row for name in os.listdir(self.path("byday")) if name.startswith("day") for row in self.rows("byday/%s/report.jsonl" % name)[1:]]
+        return {row["goal"] for row in rows if row["from"] in places and row["effect"] in ("wrong", "changed", "undecided")}
+
     def put_log(self, files, folder="log"):
         os.makedirs(self.path(folder), exist_ok=True)
         for number, data in enumerate(files, 1):
             self.put(os.path.join(folder, "%06d.jsonl" % number), data)
 
 
-class BesideOpenFga(MonitorCase):
+class BesideOpenFga(Monitoring, OpenFgaLoaded):
     def test_it_tells_what_the_day_tells(self):
         self.start_service(MODEL, "0.3", "planted")
         self.prepare()
@@ -103,17 +125,34 @@ class BesideOpenFga(MonitorCase):
         self.end(recorder)
         self.stop(monitor)
         self.ends(self.monitor("--once"))
-        day, told = self.day(), self.told()
-        self.assertEqual(self.days_told("out/days"), day)
-        self.assertEqual(len({row["id"] for row in told}), len(told))
-        mattered = {one for one in day if one[2] in ("wrong", "changed", "undecided")}
-        self.assertTrue(mattered)
-        found = [row for row in told if row["kind"] == "finding"]
-        self.assertLessEqual({(row["from"], row["finding"], row["effect"], row.get("outcome")) for row in found}, mattered)
-        self.assertEqual({row["named"] for row in found}, {row["named"] for row in found if row["user"].startswith("user:")})
+        self.assert_as_the_day()
 
 
-class Growing(MonitorCase):
+class BesideSpiceDb(Monitoring, SpiceDbLoaded):
+    def compare(self, *words):
+        self.start_service("0.1", "planted", *words)
+        client = Client(self.service_port)
+        self.prepare(client)
+        client.close()
+        recorder = self.start_recorder("--hold", "600")
+        monitor = self.monitor()
+        # The changes stand still for twenty turns of twenty-five.
+        self.run_clients(4, 75, self.work)
+        self.wait_for_changes()
+        self.wait_for(lambda: self.told(), lambda: self.get("monitor.err"))
+        self.end(recorder)
+        self.stop(monitor)
+        self.ends(self.monitor("--once"))
+        self.assert_as_the_day()
+
+    def test_it_tells_what_the_day_tells(self):
+        self.compare()
+
+    def test_on_postgres(self):
+        self.compare("--postgres")
+
+
+class Growing(Monitoring):
     """Over logs that grow as this writes them."""
 
     def test_kills(self):
@@ -249,7 +288,7 @@ class Hook(BaseHTTPRequestHandler):
         pass
 
 
-class Hooked(MonitorCase):
+class Hooked(Monitoring):
     def hook(self, down=0, port=0):
         server = HTTPServer(("127.0.0.1", port), Hook)
         server.asked, server.down, server.got, server.are_signed = 0, down, [], []
@@ -383,7 +422,7 @@ class Metrics(Hooked):
         self.stop(one)
 
 
-class Examples(MonitorCase):
+class Examples(Monitoring):
     PLACE = os.path.join(EXAMPLES, "monitor")
 
     def text(self, name):

@@ -3,8 +3,10 @@ import json
 import os
 import subprocess
 from random import Random
+from unittest import mock
 
 from new_enemy_tools.ids import Ids
+from new_enemy_tools.monitoring import holding as holding_of
 from new_enemy_tools.monitoring.holding import STATE_WAIT, WRITE_WAIT, Holding
 from new_enemy_tools.monitoring.run import Begun, Run
 from new_enemy_tools.monitoring.stream import Chunk
@@ -128,6 +130,12 @@ class Held(CoreCase):
         self.assertEqual(self.ready(holding, [named | {"version": "w"}], 12.0), [])
         self.assertEqual(self.taken(holding, 41.9), [])
         self.assertEqual(self.taken(holding, 42.0), ["check"])
+
+    def test_a_gap_comes_with_what_it_explains(self):
+        holding, gap = Holding(30.0, True), {"event": "gap", "to": "2026-11-26T10:00:00Z", "reason": "it was full"}
+        with mock.patch.object(holding_of, "LINES", 1):
+            self.assertEqual(self.ready(holding, [{**check(0, False), "version": "v"}, check(0), gap, check(0)], 0.0), ["check", "check", "gap"])
+            self.assertEqual(self.taken(holding, 0.0), ["check"])
 
     def test_days(self):
         """The lines of a day come before its end, also where both came together."""
