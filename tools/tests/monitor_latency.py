@@ -1,8 +1,9 @@
 """How long it takes from a reply to an alert: monitor_latency.py PROGRAM [SECONDS [RATE [ENEMIES]]]
 
-A service that speaks OpenFGA's interface, a recorder in front of it, a monitor beside that, and a webhook. A client asks so many checks a second
-(RATE) over 16 connections, and each second lets so many new enemies in (ENEMIES): a user is removed, a version is saved, and the user asks for
-it and gets a reply from before. Printed is how long after that reply the webhook had it, and what each process took.
+A service that speaks OpenFGA's interface, a recorder in front of it, a monitor beside that, and a webhook. A client
+asks so many checks a second (RATE) over 16 connections, and each second lets so many new enemies in (ENEMIES): a user
+is removed, a version is saved, and the user asks for it and gets a reply from before. Printed is how long after that
+reply the webhook had it, and what each process took.
 """
 import asyncio
 import json
@@ -25,8 +26,8 @@ CONNECTIONS, PAGE = 16, 100
 
 
 class Service(asyncio.Protocol):
-    """All connections have one store. A check that does not ask for the newest state of a document `early..` sees what was there before the
-    document's last change."""
+    """All connections have one store. A check that does not ask for the newest state of a document `early..` sees
+    what was there before the document's last change."""
 
     changes: list = []
     stored: set = set()
@@ -38,12 +39,15 @@ class Service(asyncio.Protocol):
         self.data += data
         while b"\r\n\r\n" in self.data:
             head, _, rest = self.data.partition(b"\r\n\r\n")
-            length = next((int(line.split(b":")[1]) for line in head.split(b"\r\n") if line.lower().startswith(b"content-length:")), 0)
+            length = next((int(line.split(b":")[1]) for line in head.split(b"\r\n")
+                           if line.lower().startswith(b"content-length:")), 0)
             if len(rest) < length:
                 return
             self.data = rest[length:]
-            answer = json.dumps(self.answer(head.split(b" ", 2)[1].decode(), json.loads(rest[:length] or b"null"))).encode()
-            self.transport.write(b"HTTP/1.1 200 OK\r\nContent-Type: application/json\r\nContent-Length: %d\r\n\r\n%s" % (len(answer), answer))
+            answer = json.dumps(self.answer(head.split(b" ", 2)[1].decode(),
+                                            json.loads(rest[:length] or b"null"))).encode()
+            head = b"HTTP/1.1 200 OK\r\nContent-Type: application/json\r\nContent-Length: %d\r\n\r\n" % len(answer)
+            self.transport.write(head + answer)
 
     def answer(self, path, body):
         url = urlsplit(path)
@@ -56,7 +60,8 @@ class Service(asyncio.Protocol):
             for kind, change in (("writes", self.stored.add), ("deletes", self.stored.discard)):
                 for one in body.get(kind, {}).get("tuple_keys", ()):
                     change((one["user"], one["relation"], one["object"]))
-                    self.changes.append({"tuple_key": one, "operation": "TUPLE_OPERATION_" + kind[:-1].upper(), "timestamp": at})
+                    self.changes.append({"tuple_key": one, "operation": "TUPLE_OPERATION_" + kind[:-1].upper(),
+                                         "timestamp": at})
             return {}
         if url.path.endswith("/changes"):
             start = int(parse_qs(url.query).get("continuation_token", ["0"])[0] or 0)
@@ -89,14 +94,16 @@ class Connection(asyncio.Protocol):
 
     async def ask(self, call, body, **headers):
         self.data, self.answered = b"", asyncio.get_running_loop().create_future()
-        data, more = json.dumps(body).encode(), "".join("%s: %s\r\n" % (name.replace("_", "-"), value) for name, value in headers.items())
-        self.transport.write(("POST /stores/%s/%s HTTP/1.1\r\nHost: x\r\nContent-Type: application/json\r\n%sContent-Length: %d\r\n\r\n" % (
-            STORE, call, more, len(data))).encode() + data)
+        data, more = json.dumps(body).encode(), "".join("%s: %s\r\n" % (name.replace("_", "-"), value) for name,
+                                                        value in headers.items())
+        head = "POST /stores/%s/%s HTTP/1.1\r\nHost: x\r\nContent-Type: application/json\r\n%sContent-Length: %d\r\n\r\n"
+        self.transport.write((head % (STORE, call, more, len(data))).encode() + data)
         return await self.answered
 
 
 def check(user, thing, consistency="HIGHER_CONSISTENCY"):
-    return {"tuple_key": {"user": "user:" + user, "relation": "viewer", "object": "document:" + thing}, "consistency": consistency}
+    return {"tuple_key": {"user": "user:" + user, "relation": "viewer", "object": "document:" + thing},
+            "consistency": consistency}
 
 
 async def let_in(connection, number, replied):
@@ -153,7 +160,8 @@ class Hook(BaseHTTPRequestHandler):
 
 def shown(times):
     listed = sorted(times)
-    return "p50 %.0f ms, p99 %.0f ms, most %.0f ms" % (*(1000 * listed[int(len(listed) * part)] for part in (0.5, 0.99)), 1000 * listed[-1])
+    return "p50 %.0f ms, p99 %.0f ms, most %.0f ms" % (*(1000 * listed[int(len(listed) * part)]
+                                                         for part in (0.5, 0.99)), 1000 * listed[-1])
 
 
 def main(words):
@@ -169,11 +177,14 @@ def main(words):
         service = subprocess.Popen([sys.executable, __file__, "serve"], stdout=subprocess.PIPE, text=True)
         port, at, replied = int(service.stdout.readline()), free_port(), {}
         log = os.path.join(room, "log")
-        recorder = subprocess.Popen([sys.executable, os.path.join(TOOLS, "record"), "--openfga", "http://127.0.0.1:%d" % port, "--listen",
+        recorder = subprocess.Popen([sys.executable, os.path.join(TOOLS, "record"), "--openfga",
+                                     "http://127.0.0.1:%d" % port, "--listen",
                                      "127.0.0.1:%d" % at, "--out", log], stderr=subprocess.PIPE, text=True)
         recorder.stderr.readline()
-        monitor = subprocess.Popen([sys.executable, os.path.join(TOOLS, "ne"), "monitor", "--program", program, "--webhook",
-                                    "http://127.0.0.1:%d/" % hook.server_port, log, os.path.join(room, "out")], stderr=subprocess.PIPE, text=True)
+        monitor = subprocess.Popen([sys.executable, os.path.join(TOOLS, "ne"), "monitor", "--program", program,
+                                    "--webhook",
+                                    "http://127.0.0.1:%d/" % hook.server_port, log, os.path.join(room, "out")],
+                                   stderr=subprocess.PIPE, text=True)
         monitor.stderr.readline()
         try:
             took = asyncio.run(load(at, seconds, rate, enemies, replied))
@@ -190,7 +201,8 @@ def main(words):
     late = [hook.heard[key] - at for key, at in replied.items() if key in hook.heard]
     print("%d checks asked in %.1f s (load %.1f); new enemies %d, heard %d: from the reply to the webhook %s" % (
         seconds * rate, took, os.getloadavg()[0], len(replied), len(late), shown(late)))
-    print("processor time of a check: monitor %.2f ms, recorder %.2f ms, service %.2f ms" % tuple(1000 * one / (seconds * rate) for one in used))
+    print("processor time of a check: monitor %.2f ms, recorder %.2f ms, service %.2f ms" % tuple(
+        1000 * one / (seconds * rate) for one in used))
 
 
 if __name__ == "__main__":

@@ -1,4 +1,5 @@
-"""A world for the core of a monitor: a log that grows, a program that follows, receivers that fail, a disk, and kills at any moment.
+"""A world for the core of a monitor: a log that grows, a program that follows, receivers that fail, a disk, and kills
+at any moment.
 
 What the program says is what the definitions say, by the tools' own reading. All is drawn by a seed.
 """
@@ -47,7 +48,8 @@ class Follow:
         new = [line for line in found if line not in self.told]
         self.told.update(new)
         if is_end:
-            return new + ["entries %d" % len(trace.entries), "findings %d" % len(self.told), "verdict %s" % ("dirty" if self.told else "clean")]
+            return new + ["entries %d" % len(trace.entries), "findings %d" % len(self.told),
+                          "verdict %s" % ("dirty" if self.told else "clean")]
         if sum(is_settled) > self.settled:
             self.settled = sum(is_settled)
             unsettled = [line for line, one in zip(trace.entries, is_settled) if not one]
@@ -90,7 +92,8 @@ class Life:
     def begin(self, holding, stop=None):
         begun, left, at = self.disk.runs[-1]
         self.own, self.follow, self.feeds = [], Follow(), False
-        self.run = Run(Begun(begun.left, begun.state, copy.deepcopy(begun.ids)), self.has_between, lambda line: self.own[line - 1 - begun.state.head.lines])
+        self.run = Run(Begun(begun.left, begun.state, copy.deepcopy(begun.ids)), self.has_between,
+                       lambda line: self.own[line - 1 - begun.state.head.lines])
         if holding is None:
             holding, self.at = Holding(self.core.settings.hold, len(self.disk.runs) > 1, stop), at
         self.core.begin(self.run, len(self.disk.runs), left, holding, self.now)
@@ -163,13 +166,15 @@ def json_left(left):
     """As the disk has it."""
     read = json.loads(json.dumps({"stories": {key: list(one) for key, one in left.stories.items()}, "held": left.held}))
     from new_enemy_tools.monitoring.alerts import Known
-    return Left({key: Known(*one) for key, one in read["stories"].items()}, [(source, finding) for source, finding in read["held"]])
+    return Left({key: Known(*one) for key, one in read["stories"].items()},
+                [(source, finding) for source, finding in read["held"]])
 
 
 def told_by(lines, random, kills, has_between, lives=200):
-    """The alerts that each receiver got, and the findings that were counted, of a monitor that is begun again when it is killed; and how often
-    it was."""
-    disk, settings = Disk(), Settings(("one", "two"), again=float("inf"), hold=0.0, effects=frozenset(("wrong", "changed", "undecided", "possible", "none")))
+    """The alerts that each receiver got, and the findings that were counted, of a monitor that is begun again when it
+    is killed; and how often it was."""
+    disk, settings = Disk(), Settings(("one", "two"), again=float("inf"), hold=0.0,
+                                      effects=frozenset(("wrong", "changed", "undecided", "possible", "none")))
     receivers = {"one": Receiver(random, 0.3 if kills else 0.0), "two": Receiver(random, 0.0)}
     for life in range(lives + 1):
         try:

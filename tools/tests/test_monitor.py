@@ -1,4 +1,5 @@
-"""`ne monitor` beside a recorder in front of a stand-in of OpenFGA, and over logs that grow: what it tells, also when it is killed at any moment.
+"""`ne monitor` beside a recorder in front of a stand-in of OpenFGA, and over logs that grow: what it tells, also when
+it is killed at any moment.
 
 KILLS in the environment says how often it is killed.
 """
@@ -54,7 +55,8 @@ def files_of(events, counts, service="openfga"):
 
 
 def timed(events, day="2026-11-26"):
-    return [{**event, "time": "%sT10:%02d:%02dZ" % (day, place // 60, place % 60)} for place, event in enumerate(events)]
+    return [{**event, "time": "%sT10:%02d:%02dZ" % (day, place // 60, place % 60)} for place,
+            event in enumerate(events)]
 
 
 class Monitoring(Recorded):
@@ -63,7 +65,8 @@ class Monitoring(Recorded):
     def monitor(self, *words, log="log", out="out", said="monitor.err", told="told"):
         """A monitor as a process; what it tells goes behind what earlier ones told."""
         files = [open(self.path(name), "a", encoding="utf-8") for name in (told, said)]
-        one = self.start(NE, "monitor", "--program", PROGRAM, "--hold", "0", *words, log, out, stdout=files[0], stderr=files[1])
+        one = self.start(NE, "monitor", "--program", PROGRAM, "--hold", "0", *words, log, out, stdout=files[0],
+                         stderr=files[1])
         for file in files:
             file.close()
         return one
@@ -99,14 +102,17 @@ class Monitoring(Recorded):
         mattered = {one for one in day if one[2] in ("wrong", "changed", "undecided")}
         self.assertTrue(mattered)
         found = [row for row in told if row["kind"] == "finding"]
-        self.assertLessEqual({(row["from"], row["finding"], row["effect"], row.get("outcome")) for row in found}, mattered)
+        self.assertLessEqual({(row["from"], row["finding"], row["effect"], row.get("outcome")) for row in found},
+                             mattered)
         self.assertEqual({row["goal"] for row in found}, self.goals_of(mattered))
 
     def goals_of(self, found):
         """The questions of some findings of the days."""
         places = {place for place, *_ in found}
-        rows = [row for name in os.listdir(self.path("byday")) if name.startswith("day") for row in self.rows("byday/%s/report.jsonl" % name)[1:]]
-        return {row["goal"] for row in rows if row["from"] in places and row["effect"] in ("wrong", "changed", "undecided")}
+        rows = [row for name in os.listdir(self.path("byday")) if name.startswith("day")
+                for row in self.rows("byday/%s/report.jsonl" % name)[1:]]
+        return {row["goal"] for row in rows if row["from"] in places
+                and row["effect"] in ("wrong", "changed", "undecided")}
 
     def put_log(self, files, folder="log"):
         os.makedirs(self.path(folder), exist_ok=True)
@@ -156,12 +162,13 @@ class Growing(Monitoring):
     """Over logs that grow as this writes them."""
 
     def test_kills(self):
-        """Whatever was killed and whenever: what is told together is what an unbroken one tells, and each story once."""
+        """Whenever it is killed: what is told together is what an unbroken one tells, and each story once."""
         random = Random("kills")
         events = [RULES, BASE, PLACE, *timed(events_of(random, 400)), write(10 ** 6, rel("none"))]
         self.put_log(files_of(events, [150, 100]), "whole")
         self.ends(self.monitor("--once", log="whole", out="unbroken", told="wanted"))
-        data = [(name, self.get(os.path.join("whole", name)).encode()) for name in sorted(os.listdir(self.path("whole")))]
+        data = [(name, self.get(os.path.join("whole", name)).encode())
+                for name in sorted(os.listdir(self.path("whole")))]
         os.mkdir(self.path("log"))
         pieces = [(name, text[at:at + 2_000]) for name, text in data for at in range(0, len(text), 2_000)]
         turns = max(1, len(pieces) // KILLS)
@@ -180,9 +187,11 @@ class Growing(Monitoring):
         wanted, told = ({row["id"]: row for row in self.told(name)} for name in ("wanted", "told"))
         self.assertGreater(len(wanted), 20)
         self.assertEqual({key for key in told if "-" not in key}, {key for key in wanted if "-" not in key})
-        counts = [{row["first_id"]: row["count"] for row in rows.values() if row["kind"] == "again"} for rows in (wanted, told)]
+        counts = [{row["first_id"]: row["count"] for row in rows.values() if row["kind"] == "again"}
+                  for rows in (wanted, told)]
         self.assertEqual(*counts)
-        self.assertEqual(*({(place.partition("/")[2], *more) for place, *more in self.days_told(name)} for name in ("unbroken/days", "out/days")))
+        self.assertEqual(*({(place.partition("/")[2], *more) for place, *more in self.days_told(name)}
+                           for name in ("unbroken/days", "out/days")))
 
     def log_of_days(self):
         random = Random("days of a monitor")
@@ -197,7 +206,8 @@ class Growing(Monitoring):
         return [RULES, BASE, PLACE, *first, *second, write(10 ** 6, rel("none"))]
 
     def test_runs(self):
-        """At midnight, and where the trace is long enough, a run ends; all tell together what the days of `ne day` do."""
+        """At midnight, and where the trace is long enough, a run ends; all tell together what the days of `ne day`
+        do."""
         self.put_log(files_of(self.log_of_days(), [100]))
         self.ends(self.monitor("--once", "--html"))
         run = self.run_tool("day", "--program", PROGRAM, "--jobs", "1", "byday", "events", *self.files())
@@ -214,16 +224,19 @@ class Growing(Monitoring):
                                   str(self.rows("out/days/day000001/report.jsonl")[1]["line"]))
         self.assertEqual((explained.returncode, explained.stderr), (0, ""))
         os.mkdir(self.path("grown"))
-        one = self.monitor("--day-bytes", "8192", "--keep-snapshots", "100", log="grown", out="often", told="often.told")
+        one = self.monitor("--day-bytes", "8192", "--keep-snapshots", "100", log="grown", out="often",
+                           told="often.told")
         for name in sorted(os.listdir(self.path("log"))):
             for line in self.get("log/" + name).splitlines(True):
                 with open(self.path("grown/" + name), "a", encoding="utf-8") as file:
                     file.write(line)
                 time.sleep(0.01)
         self.stop(one)
-        self.ends(self.monitor("--once", "--day-bytes", "8192", "--keep-snapshots", "100", log="grown", out="often", told="often.told"))
+        self.ends(self.monitor("--once", "--day-bytes", "8192", "--keep-snapshots", "100", log="grown", out="often",
+                               told="often.told"))
         self.assertGreater(len(os.listdir(self.path("often/days"))), 5)
-        self.assertEqual({(place.replace("grown", "log"), finding) for place, finding, *_ in self.days_told("often/days")}, wanted)
+        self.assertEqual({(place.replace("grown", "log"), finding) for place, finding,
+                          *_ in self.days_told("often/days")}, wanted)
         # `ne day` does not go on in the middle of a file.
         run = self.run_tool("day", "--program", PROGRAM, "out/days", "events", *self.files())
         self.assertEqual(run.returncode, 2)
@@ -233,14 +246,18 @@ class Growing(Monitoring):
         """By name, with the line; it is told as an alert too, and once."""
         events = [RULES, BASE, PLACE, write(2, rel()), check(2)]
         cases = (([files_of(events, [3])[0], files_of(events, [3])[1].replace(b'"before":"', b'"before":"0')],
-                  "log/000002.jsonl:1: it goes on from another file than the one before it; give the files of one log, as tools/record wrote them"),
+                  "log/000002.jsonl:1: it goes on from another file than the one before it; give the files of one log, as "
+                  "tools/record wrote them"),
                  ([files_of(events, [])[0].replace(b"true", b"false")],
-                  "log/000001.jsonl:7: the file was changed or cut after it was written: its last line tells of other lines than these; give the "
-                  "file as tools/record wrote it"),
-                 (files_of([*events, {"event": "check", "goal": rel(), "reply": True}], []), "log/000001.jsonl:7: `snapshot` is no whole number"),
-                 ([compact(events)], "log/000001.jsonl:1: this is no file of a recorder's log; give the folder that tools/ne record writes (--out)"),
+                  "log/000001.jsonl:7: the file was changed or cut after it was written: its last line tells of other lines "
+                  "than these; give the file as tools/record wrote it"),
+                 (files_of([*events, {"event": "check", "goal": rel(), "reply": True}], []),
+                  "log/000001.jsonl:7: `snapshot` is no whole number"),
+                 ([compact(events)], "log/000001.jsonl:1: this is no file of a recorder's log; give the folder that tools/ne "
+                  "record writes (--out)"),
                  ([files_of(events, [])[0][:-20] + b"\nno line\n"],
-                  "log/000001.jsonl:8: the line is none that tools/record writes; give the folder as its recorder left it"))
+                  "log/000001.jsonl:8: the line is none that tools/record writes; give the folder as its recorder left "
+                  "it"))
         for number, (files, text) in enumerate(cases):
             with self.subTest(text):
                 self.put_log(files)
@@ -254,7 +271,8 @@ class Growing(Monitoring):
         self.put_log([files_of(events, [])[0]])
         os.rename(self.path("log/000001.jsonl"), self.path("log/000002.jsonl"))
         self.ends(self.monitor("--once", out="missing"), 2)
-        self.assertIn("file 1 of the log in log is missing, and others go on from it; give it back", self.get("monitor.err"))
+        self.assertIn("file 1 of the log in log is missing, and others go on from it; give it back",
+                      self.get("monitor.err"))
         self.ends(self.monitor(log="none"), 5)
 
     def test_two_at_once(self):
@@ -302,7 +320,8 @@ class Hooked(Monitoring):
         doc = rel("plan", "viewer", "bob")
         events = [RULES, BASE, PLACE, write(5, doc, rel("plan", "viewer", "alice")), write(10, remove=[doc]),
                   content(10, "v2", goal=rel("plan", "viewer", "alice"), token=10), check(5, True, doc, version="v2"),
-                  check(10, True, doc), check(5, True, rel("plan", "viewer", "alice"), version="v2"), check(5, True, doc, version="v2")]
+                  check(10, True, doc), check(5, True, rel("plan", "viewer", "alice"), version="v2"),
+                  check(5, True, doc, version="v2")]
         self.put_log(files_of(timed(events), []))
 
 
@@ -320,8 +339,11 @@ class Receivers(Hooked):
         self.assertEqual([(row["kind"], row["effect"], row["title"], row.get("new_enemy")) for row in rows], [
             ("finding", "changed", "user:bob, a new enemy, was let in: doc:plan#viewer@user:bob F2 old token", True),
             ("finding", "wrong", "user:bob was let in: doc:plan#viewer@user:bob F10 wrong reply", None)])
-        self.assertEqual([rows[0][key] for key in ("user", "object", "relation", "version", "from", "ignored_from", "time", "ignored_since")], [
-            "user:bob", "doc:plan", "viewer", "v2", "log/000001.jsonl:8", "log/000001.jsonl:6", "2026-11-26T10:00:06Z", "2026-11-26T10:00:04Z"])
+        self.assertEqual([rows[0][key] for key in ("user", "object", "relation", "version", "from", "ignored_from",
+                                                   "time", "ignored_since")], [
+            "user:bob", "doc:plan", "viewer", "v2", "log/000001.jsonl:8", "log/000001.jsonl:6",
+                                                                               "2026-11-26T10:00:06Z",
+                                                                               "2026-11-26T10:00:04Z"])
         self.assertIn("doc:plan#viewer@user:bob was removed", [event["text"] for event in rows[0]["story"]["events"]])
         self.assertEqual(server.are_signed, [True, True])
         # The story that goes on is told with its count, when the run ends.
@@ -334,7 +356,8 @@ class Receivers(Hooked):
         port = free_port()
         url = "http://127.0.0.1:%d/" % port
         one = self.monitor("--webhook", url, "--metrics", "127.0.0.1:%d" % free_port())
-        self.wait_for(lambda: os.path.exists(self.path("out/alerts.jsonl")) and self.get("out/alerts.jsonl").count("\n") == 2)
+        self.wait_for(lambda: os.path.exists(self.path("out/alerts.jsonl"))
+                      and self.get("out/alerts.jsonl").count("\n") == 2)
         self.stop(one)
         server = self.hook(port=port)
         one = self.monitor("--webhook", url)
@@ -378,7 +401,8 @@ class Metrics(Hooked):
 
     def numbers(self, port):
         lines = self.asked(port, "/metrics")[1].splitlines()
-        return {name.removeprefix("new_enemy_monitor_"): float(value) for name, _, value in (line.rpartition(" ") for line in lines) if name[:1] != "#"}
+        return {name.removeprefix("new_enemy_monitor_"): float(value) for name, _,
+                value in (line.rpartition(" ") for line in lines) if name[:1] != "#"}
 
     def test_what_was_looked_at(self):
         self.log()
@@ -389,14 +413,16 @@ class Metrics(Hooked):
         self.assertEqual({key: value for key, value in found.items() if key.startswith("findings_total")}, {
             'findings_total{finding="F10",effect="wrong"}': 1, 'findings_total{finding="F2",effect="changed"}': 2,
             'findings_total{finding="F2",effect="none"}': 1})
-        self.assertEqual([found[name] for name in ("lag_seconds", "open", "held_lines", "caught_up", 'alerts_waiting{receiver="output"}')],
+        self.assertEqual([found[name] for name in ("lag_seconds", "open", "held_lines", "caught_up",
+                                                   'alerts_waiting{receiver="output"}')],
                          [0, 0, 0, 1, 0])
         self.assertEqual(self.asked(port, "/health"), (200, "auditing\n"))
         self.stop(one)
 
     def test_loss(self):
         """What the recorder lost is counted, told as an alert, and is never well."""
-        events = [RULES, BASE, PLACE, write(5, rel()), check(5), {"event": "gap", "from": "2026-11-26T10:00:00Z", "to": "2026-11-26T10:00:01Z",
+        events = [RULES, BASE, PLACE, write(5, rel()), check(5),
+                  {"event": "gap", "from": "2026-11-26T10:00:00Z", "to": "2026-11-26T10:00:01Z",
                                                                  "reason": "it was full", "lost": 3}]
         self.put_log(files_of(timed(events), []))
         port = free_port()
@@ -435,7 +461,8 @@ class Examples(Monitoring):
         shown = re.search(r"#   WORDS=(.+)", text)[1]
         _, given = given_of(started.replace("$WORDS", shown).split())
         self.assertEqual((given.log, given.out, given.webhook, given.metrics), (
-            "/var/lib/private/new-enemy/x", "/var/lib/new-enemy-monitor/x", ["https://duty.example/alerts"], "127.0.0.1:8092"))
+            "/var/lib/private/new-enemy/x", "/var/lib/new-enemy-monitor/x", ["https://duty.example/alerts"],
+                                                                                "127.0.0.1:8092"))
 
     @unittest.skipUnless(shutil.which("systemd-analyze"), "there is no systemd-analyze")
     def test_systemd_takes_the_unit(self):
@@ -451,7 +478,8 @@ class Examples(Monitoring):
         self.wait_for(lambda: b"run_bytes" in self.page(port))
         given = set(re.findall(r"# TYPE (\w+) ", self.page(port).decode()))
         self.stop(one)
-        asked = [target["expr"] for panel in json.loads(self.text("grafana.json"))["panels"] for target in panel["targets"]]
+        asked = [target["expr"] for panel in json.loads(self.text("grafana.json"))["panels"]
+                 for target in panel["targets"]]
         named = {name for expr in asked for name in re.findall(r"new_enemy_monitor_\w+", expr)}
         self.assertGreater(len(named), 10)
         self.assertLessEqual(named, given)

@@ -1,5 +1,5 @@
-"""The core of a monitor by simulation: whenever it is killed, and whatever receivers answer, it tells what an unbroken one tells, and that is
-what an audit of the whole log finds.
+"""The core of a monitor by simulation: whenever it is killed, and whatever receivers answer, it tells what an
+unbroken one tells, and that is what an audit of the whole log finds.
 
 SEEDS in the environment says how many worlds there are.
 """
@@ -34,7 +34,8 @@ class Simulated(CoreCase):
                 os.remove(self.path(name))
         self.put("log", [event for event in log if event is not PLACE])
         self.imported("events", "log")
-        run = subprocess.run([os.environ["NEW_ENEMY"], "audit", self.path("trace.jsonl"), "--make"], capture_output=True, text=True, timeout=300)
+        run = subprocess.run([os.environ["NEW_ENEMY"], "audit", self.path("trace.jsonl"), "--make"],
+                             capture_output=True, text=True, timeout=300)
         told = self.run_tool("report", "--form", "jsonl", "trace.jsonl", self.put("report", run.stdout))
         return Counter(row["finding"] for row in map(json.loads, told.stdout.splitlines()[1:]))
 
@@ -78,11 +79,13 @@ class Simulated(CoreCase):
                 for key in ("revision", "snapshot", "token"):
                     if event.get(key, 0) > revision:
                         event[key] += 1
-            log.insert(place, write(revision + 1, rel("staff", "member", "1", "doc", "reader", of="team"), time=log[place].get("time")))
+            log.insert(place, write(revision + 1, rel("staff", "member", "1", "doc", "reader", of="team"),
+                                    time=log[place].get("time")))
             whole, counts, _ = told_by(lines_of(log), random, 0.0, False)
             broken, again, _ = told_by(lines_of(log), random, 0.01, False)
             for found in counts, again:
-                self.assertEqual(sum((Counter({finding: count}) for (finding, _), count in found.items()), Counter()), self.findings(log))
+                self.assertEqual(sum((Counter({finding: count}) for (finding, _), count in found.items()), Counter()),
+                                 self.findings(log))
             # Where the runs end hangs on which lines came together.
             self.assertEqual(*({row["id"].partition(".")[0] for row in told["two"]} for told in (whole, broken)))
 

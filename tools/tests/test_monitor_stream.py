@@ -1,4 +1,5 @@
-"""The import of a monitor, a few lines at a time, writes what one import of all lines writes, but for timestamps; and what it holds back."""
+"""The import of a monitor, a few lines at a time, writes what one import of all lines writes, but for timestamps; and
+what it holds back."""
 import json
 import os
 import subprocess
@@ -26,7 +27,8 @@ class Streamed(CoreCase):
     def stream(self, events, random, has_between=True, is_held=True):
         """The trace of events that come a few at a time."""
         lines, at, now, text = lines_of(events), 0, 0.0, b""
-        run, holding = Run(Begun(None, NOTHING, Ids()), has_between, lambda line: b""), Holding(1e6 if is_held else 0.0, False)
+        run, holding = Run(Begun(None, NOTHING, Ids()), has_between,
+                           lambda line: b""), Holding(1e6 if is_held else 0.0, False)
         while at < len(lines) or holding.lines:
             count = random.randint(1, 5)
             some = lines[at:at + count]
@@ -39,7 +41,8 @@ class Streamed(CoreCase):
         return text
 
     def report(self, trace):
-        run = subprocess.run([os.environ["NEW_ENEMY"], "audit", "/dev/stdin", "--make"], input=trace, capture_output=True, timeout=300)
+        run = subprocess.run([os.environ["NEW_ENEMY"], "audit", "/dev/stdin", "--make"], input=trace,
+                             capture_output=True, timeout=300)
         self.assertIn(run.returncode, (0, 1), run.stderr)
         return run.stdout.decode()
 
@@ -68,20 +71,24 @@ class Streamed(CoreCase):
             self.compare([RULES, BASE, *events_of(random, 60, True)], random, True)
 
     def test_gaps_that_are_told_later(self):
-        """A check of a version that nobody issued waits for a line that may say why; what was issued in a gap is not said to be unknown."""
+        """A check of a version that nobody issued waits for a line that may say why; what was issued in a gap is not
+        said to be unknown."""
         found, parts = "", 0
         for number in range(20):
             random = Random("stream gap %d" % number)
-            log = [{**event, "time": "2026-11-26T10:00:%02dZ" % place} for place, event in enumerate(events_of(random, 58))]
+            log = [{**event, "time": "2026-11-26T10:00:%02dZ" % place} for place,
+                   event in enumerate(events_of(random, 58))]
             last = max(event.get("revision", 0) for event in log)
             for _ in range(3):
                 place = random.randrange(len(log))
-                named = {**check(0, False, rel("1", "viewer", "none")), "version": "lost %d" % random.randrange(9), "time": log[place]["time"]}
+                named = {**check(0, False, rel("1", "viewer", "none")), "version": "lost %d" % random.randrange(9),
+                         "time": log[place]["time"]}
                 log.insert(place, named)
             if number % 3:
                 place = random.randrange(20, len(log))
                 since = log[random.randrange(place)]["time"]
-                log.insert(place, {"event": "gap", "from": since, "to": log[place]["time"], "reason": "it was full", "lost": 1})
+                log.insert(place, {"event": "gap", "from": since, "to": log[place]["time"], "reason": "it was full",
+                                   "lost": 1})
             found += self.compare([RULES, BASE, *log, write(last + 1)], random, number % 2 == 0)
             parts += self.get("trace.jsonl").count('"part"')
         self.assertIn("F6", found)
@@ -96,7 +103,8 @@ class Held(CoreCase):
         return self.taken(holding, now, issues)
 
     def taken(self, holding, now, issues=lambda *_: False):
-        return [json.loads(line)["event"] for chunk in holding.ready(issues, -1, now).chunks for line in chunk.data.splitlines()]
+        return [json.loads(line)["event"] for chunk in holding.ready(issues, -1, now).chunks
+                for line in chunk.data.splitlines()]
 
     def test_the_base_state(self):
         holding = Holding(30.0, False)
@@ -113,7 +121,8 @@ class Held(CoreCase):
         self.assertEqual(self.taken(holding, 0.3 + WRITE_WAIT), ["write"])
 
     def test_states_to_come(self):
-        """A check, and all behind it, until the log has come to the states that it may have looked at; or for some seconds."""
+        """A check, and all behind it, until the log has come to the states that it may have looked at; or for some
+        seconds."""
         holding = Holding(30.0, True)
         self.assertEqual(self.ready(holding, [write(1), between(check(0), 1, 2, True), check(1)], 0.0), ["write"])
         self.assertEqual(self.ready(holding, [write(2, rel()), check(2)], 1.0), ["check", "check", "write", "check"])
@@ -134,7 +143,8 @@ class Held(CoreCase):
     def test_a_gap_comes_with_what_it_explains(self):
         holding, gap = Holding(30.0, True), {"event": "gap", "to": "2026-11-26T10:00:00Z", "reason": "it was full"}
         with mock.patch.object(holding_of, "LINES", 1):
-            self.assertEqual(self.ready(holding, [{**check(0, False), "version": "v"}, check(0), gap, check(0)], 0.0), ["check", "check", "gap"])
+            self.assertEqual(self.ready(holding, [{**check(0, False), "version": "v"}, check(0), gap, check(0)], 0.0),
+                             ["check", "check", "gap"])
             self.assertEqual(self.taken(holding, 0.0), ["check"])
 
     def test_days(self):
@@ -143,4 +153,5 @@ class Held(CoreCase):
         days = [check(0, time="2026-11-%02dT00:00:00Z" % day) for day in (26, 26, 27, 28, 28)]
         holding.put(Chunk("log", 1, b"".join(lines_of(days))), 0.0)
         found = [holding.ready(lambda *_: False, -1, 0.0) for _ in range(4)]
-        self.assertEqual([([chunk.first for chunk in one.chunks], one.is_over) for one in found], [([1], True), ([3], True), ([4], False), ([], False)])
+        self.assertEqual([([chunk.first for chunk in one.chunks], one.is_over) for one in found],
+                         [([1], True), ([3], True), ([4], False), ([], False)])

@@ -1,7 +1,8 @@
 """Alerts: each story that matters is told once, and later with a count while it goes on.
 
-A story is what `ne report` calls a group: the requests of one question and reply that had the same effect, by the same change that was
-ignored. It is known by texts of the service's own log, so that a run that begins anew finds it again.
+A story is what `ne report` calls a group: the requests of one question and reply that had the same effect, by the
+same change that was ignored. It is known by texts of the service's own log, so that a run that begins anew finds it
+again.
 """
 import json
 from hashlib import blake2b
@@ -19,7 +20,8 @@ Row = dict[str, Any]
 
 
 class Known(NamedTuple):
-    """What stays of a story from run to run: the number and the id of its first alert, how many requests have it, and how many were told."""
+    """What stays of a story from run to run: the number and the id of its first alert, how many requests have it, and
+    how many were told."""
 
     alert: int
     id: str
@@ -59,7 +61,8 @@ class Alert(NamedTuple):
 
 
 class Stories:
-    """Those that go on. `known` are those of the run before, and `told` those of which this run told before it was broken off."""
+    """Those that go on. `known` are those of the run before, and `told` those of which this run told before it was
+    broken off."""
 
     def __init__(self, effects: frozenset[str], known: dict[str, Known], told: dict[str, Known], now: float):
         self.effects = effects
@@ -78,7 +81,8 @@ class Stories:
             story = self.stories.get(key)
             if story is None:
                 story = self.stories[key] = Story(Known(number + len(found), "%s.%d" % (key, begun), 0, 1), now)
-                found.append(Alert(story.alert, key, {"alert": story.alert, "id": story.id, **text_of(run, telling, told)}))
+                found.append(Alert(story.alert, key,
+                                   {"alert": story.alert, "id": story.id, **text_of(run, telling, told)}))
             story.take(told)
         return found
 
@@ -87,13 +91,16 @@ class Stories:
         found: list[Alert] = []
         for key, story in self.stories.items():
             if story.count > story.told and (is_end or now - story.at >= every):
-                told = story.told
+                found.append(Alert(number + len(found), key, self._again(story, number + len(found))))
                 story.told, story.at = story.count, now
-                found.append(Alert(number + len(found), key, {
-                    "alert": number + len(found), "id": "%s-%d" % (story.id, story.count), "kind": "again", "first": story.alert, "first_id": story.id, "count": story.count,
-                    "more": story.count - told, "until": story.until, "said": "the story of alert %d goes on: %d requests by now" % (
-                        story.alert, story.count)}))
         return found
+
+    @staticmethod
+    def _again(story: Story, number: int) -> Row:
+        said = "the story of alert %d goes on: %d requests by now" % (story.alert, story.count)
+        return {"alert": number, "id": "%s-%d" % (story.id, story.count), "kind": "again", "first": story.alert,
+                "first_id": story.id, "count": story.count, "more": story.count - story.told, "until": story.until,
+                "said": said}
 
     def leave(self) -> dict[str, Known]:
         """Of the stories that this run had, what the next one knows."""
@@ -114,8 +121,10 @@ def text_of(run: Run, telling: Telling, told: Told) -> Row:
     row = row_of(telling, told)
     row["asked"] = row.pop("kind")
     named = run.names.question(told.entry.goal)
-    made: Row = {"kind": "finding", "title": _title(run, told, named.user), "said": plain(sentence({**row, "kind": row["asked"]})), "count": 1, **row,
-                 "user": named.user, "object": "%s:%s" % named[:2], "relation": named.relation, "ignored_from": run.change_of(told)}
+    made: Row = {"kind": "finding", "title": _title(run, told, named.user),
+                 "said": plain(sentence({**row, "kind": row["asked"]})), "count": 1, **row,
+                 "user": named.user, "object": "%s:%s" % named[:2], "relation": named.relation,
+                 "ignored_from": run.change_of(told)}
     if told.outcome is not None:
         made["story"] = _story(run, told)
     return {key: value for key, value in made.items() if value is not None}
@@ -135,11 +144,13 @@ def _story(run: Run, told: Told) -> Row:
         story = teller.story(told)
     except Outgrown as fault:
         story = teller.short_story(told, str(fault))
-    return {"question": plain(story.question), "events": [_event(one) for one in story.events], "remarks": [plain(one) for one in story.remarks]}
+    return {"question": plain(story.question), "events": [_event(one) for one in story.events],
+            "remarks": [plain(one) for one in story.remarks]}
 
 
 def _event(event: Event) -> Row:
-    row = {"mark": event.mark, "text": plain(event.text), "where": event.where or None, "revision": event.revision or None,
+    row = {"mark": event.mark, "text": plain(event.text), "where": event.where or None,
+           "revision": event.revision or None,
            "time": event.time or None, "ignored": event.is_ignored or None}
     return {key: value for key, value in row.items() if value is not None}
 

@@ -1,7 +1,9 @@
-"""The monitor as a pure machine: what it reads, hears and is answered goes in, with the time, and what is to be done comes out.
+"""The monitor as a pure machine: what it reads, hears and is answered goes in, with the time, and what is to be done
+comes out.
 
-Of what it gives out `Keep` has to be on the disk before a `Send` behind it is sent, so that a monitor which is killed tells nothing twice that
-was kept, and loses nothing. A run that begins anew is given the lines of the log since the run's beginning, and the rows that were kept.
+Of what it gives out `Keep` has to be on the disk before a `Send` behind it is sent, so that a monitor which is killed
+tells nothing twice that was kept, and loses nothing. A run that begins anew is given the lines of the log since the
+run's beginning, and the rows that were kept.
 """
 import json
 from collections import Counter
@@ -21,7 +23,8 @@ class Settings(NamedTuple):
     effects: frozenset[str] = frozenset(("wrong", "changed", "undecided"))
     # how often at most a story that goes on is told again, in seconds
     again: float = 600.0
-    # the lag in seconds, and the share of checks that were not looked at whole, in percent, beyond which there is an alert
+    # the lag in seconds, and the share of checks that were not looked at whole, in percent, beyond which there is an
+    # alert
     most_lag: float = 60.0
     most_loss: float = 1.0
     # so long a check of an unknown version is held
@@ -48,7 +51,8 @@ class EndRun(NamedTuple):
 
 
 class BeginAnew(NamedTuple):
-    """The run has to end before a line, by its file and number, which it has taken already: so it is begun anew, up to there."""
+    """The run has to end before a line, by its file and number, which it has taken already: so it is begun anew, up
+    to there."""
 
     stop: tuple[str, int]
 
@@ -57,7 +61,8 @@ Out = Union[Feed, Keep, Send, EndRun, BeginAnew]
 
 
 class Left(NamedTuple):
-    """What a run leaves to the next beside the import and the state: its stories, and findings on entries that the next run has too."""
+    """What a run leaves to the next beside the import and the state: its stories, and findings on entries that the
+    next run has too."""
 
     stories: dict[str, Known]
     held: list[tuple[str, str]]
@@ -105,7 +110,8 @@ class Core:
         text, told = row["text"], self._told.setdefault(row["run"], {})
         if row.get("story"):
             is_first = text["kind"] == "finding"
-            told[row["story"]] = Known(row["alert"] if is_first else text["first"], text["id"] if is_first else text["first_id"], 0, text["count"])
+            told[row["story"]] = Known(row["alert"] if is_first else text["first"],
+                                       text["id"] if is_first else text["first_id"], 0, text["count"])
         elif text["kind"] == "stopped":
             self.stopped_by = text.get("why")
         elif text["kind"] in self.passed:
@@ -162,7 +168,8 @@ class Core:
         """Without findings on entries that were held over, which the run before has told."""
         if not self._held:
             return telling
-        return telling._replace(told=[one for one in telling.told if (one.entry.source or "", one.finding.finding) not in self._held])
+        return telling._replace(told=[one for one in telling.told
+                                      if (one.entry.source or "", one.finding.finding) not in self._held])
 
     def answered(self, receiver: str, number: int, fault: Optional[str], now: float) -> Iterator[Out]:
         if self.delivery.answered(receiver, number, fault, now):
@@ -172,15 +179,17 @@ class Core:
         yield from self.delivery.due(now)
 
     def look(self, wall: int) -> Iterator[Out]:
-        """Looks whether a bound is passed. `wall` is the time in nanoseconds. A run that begins anew is looked at when it has come to the end
-        of the log, or has not for as long as replies may wait."""
+        """Looks whether a bound is passed. `wall` is the time in nanoseconds. A run that begins anew is looked at
+        when it has come to the end of the log, or has not for as long as replies may wait."""
         if self.stopped_by is not None:
             self.stopped_by = None
             yield from self._stop("ended", "the monitor audits again", None)
         lag, coverage = self.lag(wall), self.coverage()
-        yield from self._bound("lag", lag, self.settings.most_lag, "a reply of %.1f seconds ago is not audited yet" % lag)
+        yield from self._bound("lag", lag, self.settings.most_lag,
+                               "a reply of %.1f seconds ago is not audited yet" % lag)
         loss = 0.0 if coverage.is_empty or coverage.is_whole else coverage._replace(open=0).percent
-        yield from self._bound("loss", loss, self.settings.most_loss, "%s; that is %.2f percent that was not looked at whole" % (
+        yield from self._bound("loss", loss, self.settings.most_loss,
+                               "%s; that is %.2f percent that was not looked at whole" % (
             coverage.said_counts, loss))
 
     def _bound(self, name: str, value: float, most: float, said: str) -> Iterator[Out]:
@@ -189,9 +198,10 @@ class Core:
         if value > most and not is_passed or is_passed and value <= most / 2:
             self.passed[name] = not is_passed
             state = "ended" if is_passed else "passed"
+            how = "is within its bound again" if is_passed else "is above %g" % most
             yield from self._put([Alert(self.next, None, {
-                "alert": self.next, "id": "%s-%d" % (name, self.next), "kind": name, "state": state, "value": round(value, 3), "bound": most,
-                "said": "%s: %s" % ("%s is within its bound again" % name if is_passed else "%s is above %g" % (name, most), said)})])
+                "alert": self.next, "id": "%s-%d" % (name, self.next), "kind": name, "state": state,
+                "value": round(value, 3), "bound": most, "said": "%s %s: %s" % (name, how, said)})])
 
     def stopped(self, why: str) -> Iterator[Out]:
         """An alert that the monitor can't go on; once, however often it is begun again."""
@@ -207,8 +217,8 @@ class Core:
         for alert in alerts:
             self.next = max(self.next, alert.number + 1)
             self.alerts[alert.text["kind"]] += 1
-            row: Row = {"alert": alert.number, "run": self.number, "story": alert.story, "to": list(self.settings.receivers),
-                        "text": alert.text}
+            row: Row = {"alert": alert.number, "run": self.number, "story": alert.story,
+                        "to": list(self.settings.receivers), "text": alert.text}
             self._note(row)
             yield Keep(row)
             for receiver in self.settings.receivers:
@@ -230,7 +240,8 @@ class Core:
         return self.run.coverage()
 
     def kept_rows(self) -> Iterator[Row]:
-        """What a journal still needs at the beginning of a run, which knows the stories itself: alerts that some receiver has not got."""
+        """What a journal still needs at the beginning of a run, which knows the stories itself: alerts that some
+        receiver has not got."""
         waiting: dict[int, list[str]] = {}
         texts: dict[int, str] = {}
         for receiver, sends in self.delivery.waiting.items():

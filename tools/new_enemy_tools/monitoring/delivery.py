@@ -1,5 +1,5 @@
-"""What receivers have still to be told: each gets the alerts in their order, one at a time, until it says that it has them. It has no clock and
-no socket."""
+"""What receivers have still to be told: each gets the alerts in their order, one at a time, until it says that it has
+them. It has no clock and no socket."""
 from collections import Counter, deque
 from typing import Iterator, NamedTuple, Optional
 

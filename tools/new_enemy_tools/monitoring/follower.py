@@ -27,7 +27,8 @@ class Follower:
         self.program, self.run, self.inbox = program, run, inbox
         self._error = tempfile.TemporaryFile()
         try:
-            self._process = subprocess.Popen([program, "follow", "--heartbeat"], stdin=subprocess.PIPE, stdout=subprocess.PIPE, stderr=self._error)
+            self._process = subprocess.Popen([program, "follow", "--heartbeat"], stdin=subprocess.PIPE,
+                                             stdout=subprocess.PIPE, stderr=self._error)
         except OSError as fault:
             raise DeviceFault("cannot run %s: %s" % (program, fault.strerror)) from None
         assert self._process.stdin is not None

@@ -1,8 +1,10 @@
-"""Lines of a log that were read, and which of them an import can take now: those that no line behind them may still move.
+"""Lines of a log that were read, and which of them an import can take now: those that no line behind them may still
+move.
 
-Held are: the base state until all of it is there; the last write, until it is seen that no other line has its revision; a check that may have
-looked at states up to one that the log does not have yet; and a check of a version that nobody issued so far, since a gap or a line that is
-told later may say why. What is held for too long is taken as it is, as an import of a whole log would take it at its end.
+Held are: the base state until all of it is there; the last write, until it is seen that no other line has its
+revision; a check that may have looked at states up to one that the log does not have yet; and a check of a version
+that nobody issued so far, since a gap or a line that is told later may say why. What is held for too long is taken as
+it is, as an import of a whole log would take it at its end.
 """
 import re
 from collections import deque
@@ -47,8 +49,8 @@ class Line(NamedTuple):
 
 
 class Unknown(NamedTuple):
-    """A check of a version that nobody issued so far: its place, the version, and until when by its own time and by the clock something may say
-    why."""
+    """A check of a version that nobody issued so far: its place, the version, and until when by its own time and by
+    the clock something may say why."""
 
     place: int
     key: tuple[str, str, str]
@@ -84,7 +86,8 @@ class Holding:
 
     @property
     def has_room(self) -> bool:
-        """Whether more lines may be read: few ahead, and where some are held so many that what they wait for can come."""
+        """Whether more lines may be read: few ahead, and where some are held so many that what they wait for can
+        come."""
         return self.bytes < (MOST_HELD if self._unknown else MOST)
 
     @property
@@ -150,6 +153,8 @@ class Holding:
         between = BETWEEN.search(raw)
         if between is not None and int(between[1]) > self._need:
             self._need, self._need_since = int(between[1]), now
+        if self._unknown:
+            self._newest = max(self._newest or 0, time_of(raw) or 0)
         if b'"version":' not in raw:
             return
         try:
@@ -161,21 +166,21 @@ class Holding:
         if raw.startswith(CHECKS[1]):
             self._issued.setdefault((of, thing, label), place)
         elif (of, thing, label) not in self._issued and not issues(of, thing, label):
-            self._unknown.append(Unknown(place, (of, thing, label), None if found is None else nanoseconds(found[1].decode()), now + self.hold))
-        if found is not None and self._unknown:
-            self._newest = max(self._newest or 0, nanoseconds(found[1].decode()) or 0)
+            self._unknown.append(Unknown(place, (of, thing, label), time_of(raw), now + self.hold))
 
     def _cut_late(self, now: float) -> None:
         """Behind all lines, where they were held for too long."""
         if not self.lines or not self.is_begun:
             return
         waited = now - self.lines[-1].read
-        if self._need <= self._last and waited >= WRITE_WAIT or self._need > self._last and now - self._need_since >= STATE_WAIT:
+        is_long = waited >= WRITE_WAIT if self._need <= self._last else now - self._need_since >= STATE_WAIT
+        if is_long:
             self._cut(self._seen)
 
     def _end(self, issues: Issues, now: float) -> int:
         """Up to which place lines can be taken."""
-        while self._unknown and (self._unknown[0].place < self._taken or self._is_late(self._unknown[0], now) or issues(*self._unknown[0].key)):
+        while self._unknown and (self._unknown[0].place < self._taken or self._is_late(self._unknown[0], now)
+                                 or issues(*self._unknown[0].key)):
             self._unknown.popleft()
         limit = self._unknown[0].place if self._unknown else self._seen
         end = self._taken
@@ -190,7 +195,8 @@ class Holding:
     def _is_late(self, unknown: Unknown, now: float) -> bool:
         """Whether nothing that is told now would say any more why nobody issued a version."""
         room = int(self.hold * 1e9)
-        return unknown.until <= now or self._newest is not None and unknown.time is not None and self._newest >= unknown.time + room
+        is_behind = self._newest is not None and unknown.time is not None and self._newest >= unknown.time + room
+        return unknown.until <= now or is_behind
 
     def _chunks(self, end: int) -> Iterator[Chunk]:
         taken = [self.lines.popleft() for _ in range(end - self._taken)]

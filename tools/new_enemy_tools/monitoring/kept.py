@@ -21,7 +21,7 @@ from new_enemy_tools.monitoring.tail import Place
 from new_enemy_tools.parting.merging import Answer
 from new_enemy_tools.trace_lines import with_mark
 from new_enemy_tools.windowing.carrying import Carry
-from new_enemy_tools.windowing.days import MONITORED, Days, digest_of
+from new_enemy_tools.windowing.days import MONITORED, Days
 from new_enemy_tools.windowing.reading import Own
 from new_enemy_tools.windowing.run import Audited
 from new_enemy_tools.windowing.telling import told_of
@@ -83,23 +83,26 @@ def start_of(days: Days, given: Namespace) -> Start:
     return Start(begun, Left(stories, [(source, finding) for source, finding in value["held"]]), Place(*value["place"]))
 
 
-def keep(days: Days, given: Namespace, run: Run, carry: Carry, status: int, left: Left, place: Place, file: RunFile) -> int:
+def keep(days: Days, given: Namespace, run: Run, carry: Carry, status: int, left: Left, place: Place,
+         file: RunFile) -> int:
     """Makes a day of a run that has ended; its number."""
     coverage = run.stream.coverage()
     file.end(mark_of(coverage))
-    answer = Answer(status, run.report(), "")
+    told = told_of(run.window, carry, run.numbers, Answer(status, run.report(), ""))
     own = Own(file.path, run.begun.state, False)
-    found = Audited(told_of(run.window, carry, run.numbers, answer), run.window, carry, run.carried).covered(own, coverage)
+    found = Audited(told, run.window, carry, run.carried, run.counts).covered(own, coverage)
     write_whole(days.work("import.txt"), list(run.stream.told()))
     run.begun.ids.append()
     write_left(days.work("left"), run.stream.leave()._replace(ids=mark_of_file(days.work("ids.jsonl"))))
     stories = {key: list(one) for key, one in left.stories.items()}
     write_whole(days.work(MONITORED), [json.dumps({"place": list(place), "stories": stories, "held": left.held})])
-    return kept(days, given, own, found, run.begun.ids, digest_of([file.path]))
+    return kept(days, given, own, found, run.begun.ids, run.window.digest.hexdigest())
 
 
 def options(folder: str, program: str, names: list[str], html: bool, keep_days: int, allow: float, snapshots: int,
             versions: Optional[int]) -> Namespace:
     """As `ne day` has its words."""
-    return Namespace(folder=folder, program=program, jobs=1, parts=1, names=names, html=html, keep_days=keep_days, allow_unaudited=allow,
-                     keep_snapshots=snapshots, keep_versions=versions, oldest_snapshot=None, held_back=0, said=[], service="events")
+    return Namespace(folder=folder, program=program, jobs=1, parts=1, names=names, html=html, keep_days=keep_days,
+                     allow_unaudited=allow,
+                     keep_snapshots=snapshots, keep_versions=versions, oldest_snapshot=None, held_back=0, said=[],
+                     service="events")

@@ -1,4 +1,5 @@
-"""The devices round the core of a monitor: it reads the log, feeds the program, keeps rows, tells receivers, and ends runs."""
+"""The devices round the core of a monitor: it reads the log, feeds the program, keeps rows, tells receivers, and ends
+runs."""
 import asyncio
 import os
 import signal
@@ -64,7 +65,8 @@ class Machine:
     # Runs
 
     def _begin(self, holding: Optional[Holding], stop: Optional[tuple[str, int]] = None) -> None:
-        """Begins a run with the lines that are held; without these anew, from where the last one that was kept has ended, and up to a line."""
+        """Begins a run with the lines that are held; without these anew, from where the last one that was kept has
+        ended, and up to a line."""
         start = start_of(self.days, self.way.options)
         number = 1 + (self.days.last or 0)
         if holding is None:
@@ -78,7 +80,8 @@ class Machine:
         self.core.begin(self.run, number, start.left, holding, time.monotonic())
 
     def _has_between(self) -> bool:
-        """Whether checks may have looked at any state between two; of a log that is not there yet that is not known, and taken to be so."""
+        """Whether checks may have looked at any state between two; of a log that is not there yet that is not known,
+        and taken to be so."""
         assert self.tail is not None
         return self.tail.first_service() != "spicedb"
 
@@ -98,7 +101,8 @@ class Machine:
         number = keep(self.days, given, run, carry, status, self.core.leave(), place, self.file)
         self.days.mark_told(number)
         self.tail.forget(place.file)
-        tell("monitor: run %d has ended, since %s; %s" % (number, why, self.days.tell(number).splitlines()[-1]), sys.stderr)
+        tell("monitor: run %d has ended, since %s; %s" % (number, why, self.days.tell(number).splitlines()[-1]),
+             sys.stderr)
         self.journal.replace(self.core.kept_rows())
         self.core.holding.stop = None
         self._begin(self.core.holding)

@@ -21,7 +21,8 @@ class Before(NamedTuple):
         """With those of the run that goes on."""
         coverage = core.coverage()
         return Before(self.entries + core.run.through.entries, _sum(self.not_audited, coverage.not_audited),
-                      _sum(self.in_part, coverage.in_part), _sum(self.lost, coverage.lost), self.gaps + coverage.uncounted)
+                      _sum(self.in_part, coverage.in_part), _sum(self.lost, coverage.lost),
+                      self.gaps + coverage.uncounted)
 
 
 def _sum(one: Mapping[str, int], other: Mapping[str, int]) -> dict[str, int]:
@@ -35,17 +36,22 @@ def exposition(core: Core, before: Before, wall: int, is_caught_up: bool) -> str
         ("findings_total", "counter", "Findings by their kind and effect.", dict(core.counts), ("finding", "effect")),
         ("not_audited_total", "counter", "Checks that are not audited, by cause.", sums.not_audited, ("cause",)),
         ("in_part_total", "counter", "Checks that are audited in part, by cause.", sums.in_part, ("cause",)),
-        ("lost_total", "counter", "Checks that the recorder lost, as it counted them, by cause.", sums.lost, ("cause",)),
+        ("lost_total", "counter", "Checks that the recorder lost, as it counted them, by cause.", sums.lost,
+         ("cause",)),
         ("gaps_total", "counter", "Gaps of the recorder's log in which nobody counted.", {"": sums.gaps}, ()),
-        ("lag_seconds", "gauge", "For how long the oldest reply that was read waits until it is settled.", {"": core.lag(wall)}, ()),
+        ("lag_seconds", "gauge", "For how long the oldest reply that was read waits until it is settled.",
+         {"": core.lag(wall)}, ()),
         ("open", "gauge", "Checks in the trace that no commit has settled.", {"": run.through.open}, ()),
-        ("held_lines", "gauge", "Lines of the log that are held, since lines behind them may move them.", {"": len(core.holding.lines)}, ()),
+        ("held_lines", "gauge", "Lines of the log that are held, since lines behind them may move them.",
+         {"": len(core.holding.lines)}, ()),
         ("findings_waiting", "gauge", "Findings whose effect waits for changes.", {"": run.waiting}, ()),
         ("alerts_total", "counter", "Alerts by their kind, since this monitor began.", dict(core.alerts), ("kind",)),
         ("alerts_waiting", "gauge", "Alerts that a receiver has not got.",
          {name: len(waiting) for name, waiting in core.delivery.waiting.items()}, ("receiver",)),
-        ("failures_total", "counter", "Tries at which a receiver did not take an alert.", dict(core.delivery.failed), ("receiver",)),
-        ("bound_passed", "gauge", "1 where a bound is passed.", {name: is_on for name, is_on in core.passed.items()}, ("bound",)),
+        ("failures_total", "counter", "Tries at which a receiver did not take an alert.", dict(core.delivery.failed),
+         ("receiver",)),
+        ("bound_passed", "gauge", "1 where a bound is passed.", {name: is_on for name, is_on in core.passed.items()},
+         ("bound",)),
         ("run", "gauge", "The number of the run that goes on.", {"": core.number}, ()),
         ("run_bytes", "gauge", "Bytes of the trace of this run.", {"": run.bytes}, ()),
         ("caught_up", "gauge", "1 where all of the log has been read that was there.", {"": is_caught_up}, ())]

@@ -1,4 +1,5 @@
-"""Who gets alerts: standard output, a webhook, a command, a log of the system. Each is a thread, and tells at most one alert at a time."""
+"""Who gets alerts: standard output, a webhook, a command, a log of the system. Each is a thread, and tells at most
+one alert at a time."""
 import hashlib
 import hmac
 import http.client
@@ -47,8 +48,8 @@ class Output:
 class Webhook:
     """A request of HTTP with the alert as its body, and a signature by a secret that both sides have.
 
-    The signature is HMAC-SHA256 of the time that the request says, a full stop, and the body. An answer between 200 and 299 says that the
-    alert is there; no other address is followed.
+    The signature is HMAC-SHA256 of the time that the request says, a full stop, and the body. An answer between 200
+    and 299 says that the alert is there; no other address is followed.
     """
 
     def __init__(self, url: SplitResult, secret: Optional[bytes]):
@@ -88,7 +89,8 @@ class Webhook:
     def _opened(self) -> http.client.HTTPConnection:
         host = self.url.hostname or ""
         if self.url.scheme == "https":
-            return http.client.HTTPSConnection(host, self.url.port, timeout=PATIENCE, context=ssl.create_default_context())
+            return http.client.HTTPSConnection(host, self.url.port, timeout=PATIENCE,
+                                               context=ssl.create_default_context())
         return http.client.HTTPConnection(host, self.url.port, timeout=PATIENCE)
 
     def _close(self) -> None:
@@ -109,7 +111,8 @@ class Command:
 
     def take(self, text: str) -> Optional[str]:
         try:
-            run = subprocess.run(self.words, input=text.encode() + b"\n", stdout=subprocess.DEVNULL, stderr=subprocess.PIPE,
+            run = subprocess.run(self.words, input=text.encode() + b"\n", stdout=subprocess.DEVNULL,
+                                 stderr=subprocess.PIPE,
                                  timeout=6 * PATIENCE)
         except (OSError, subprocess.TimeoutExpired) as fault:
             return str(fault)

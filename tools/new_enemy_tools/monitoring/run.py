@@ -1,17 +1,17 @@
-"""A run of a monitor, as of a day: lines of a log in, lines of a trace out; and what a program that follows these says in, findings with
-their effects out. It has no file, process or clock."""
+"""A run of a monitor, as of a day: lines of a log in, lines of a trace out; and what a program that follows these
+says in, findings with their effects out. It has no file, process or clock."""
 import re
 from collections import Counter, deque
 from typing import Callable, NamedTuple, Optional
 
-from new_enemy_tools.coverage import Coverage
+from new_enemy_tools.coverage import NO_LINES, Coverage, lines_in
 from new_enemy_tools.effects import Told
 from new_enemy_tools.findings import ON_TOKENS, Finding, Report, finding_of
 from new_enemy_tools.ids import Ids
 from new_enemy_tools.importing import causes
 from new_enemy_tools.importing.going_on import Left
 from new_enemy_tools.limits import LINE_BYTES
-from new_enemy_tools.looked import Looked
+from new_enemy_tools.looked import Looked, looked_in
 from new_enemy_tools.monitoring.faults import MonitorFault
 from new_enemy_tools.monitoring.holding import CHECKS, time_of
 from new_enemy_tools.monitoring.stream import Chunk, Stream
@@ -22,7 +22,7 @@ from new_enemy_tools.trace import Refusal, Trace
 from new_enemy_tools.trace_lines import CHECK_START, CONTENT_START, is_utf8
 from new_enemy_tools.windowing.carrying import Carry, Keep, Window, carried
 from new_enemy_tools.windowing.reading import Numbers, carried_lines, strata_in, with_strata
-from new_enemy_tools.windowing.run import refuse_twice
+from new_enemy_tools.windowing.run import OwnCounts, refuse_twice
 from new_enemy_tools.windowing.scanning import scan
 from new_enemy_tools.windowing.state import Row, State
 from new_enemy_tools.windowing.telling import text_of
@@ -42,7 +42,8 @@ class Begun(NamedTuple):
 
 
 class Through(NamedTuple):
-    """What a program that follows says of how far it is: the last settled line of the log, how many entries are settled and how many are not."""
+    """What a program that follows says of how far it is: the last settled line of the log, how many entries are
+    settled and how many are not."""
 
     line: int
     entries: int
@@ -50,7 +51,8 @@ class Through(NamedTuple):
 
 
 class Piece(NamedTuple):
-    """Lines that were taken together: the last line of the trace that is an entry of them, and when their first and last reply were given."""
+    """Lines that were taken together: the last line of the trace that is an entry of them, and when their first and
+    last reply were given."""
 
     line: int
     first: int
@@ -75,6 +77,7 @@ class Run:
         self.names = Names(begun.ids)
         self.through = Through(0, 0, 0)
         self.findings = 0
+        self.counts = OwnCounts(NO_LINES, Looked(0, 0, 0))
         # the trace's own bytes
         self.bytes = 0
         # what is not settled yet
@@ -120,6 +123,7 @@ class Run:
     def _see(self, text: bytes) -> None:
         before, window = self.window.lines + 1, self.window
         window.take_bytes(text)
+        self.counts = OwnCounts(self.counts.lines.plus(lines_in(text)), self.counts.looked.plus(looked_in(text)))
         scanned = scan(window.old.head.base, window.old.head.last, text)
         window.take(scanned)
         if window.bad:
@@ -136,7 +140,8 @@ class Run:
 
     def _note_times(self, chunk: Chunk, before: int, text: bytes) -> None:
         lines = text.split(b"\n")
-        last = next((place for place in range(len(lines), 0, -1) if lines[place - 1].startswith((CHECK_START, CONTENT_START))), None)
+        last = next((place for place in range(len(lines), 0, -1)
+                     if lines[place - 1].startswith((CHECK_START, CONTENT_START))), None)
         checks = [line for line in chunk.data.split(b"\n") if line.startswith(CHECKS)]
         times = [time for time in map(time_of, (checks[0], checks[-1]) if checks else ()) if time is not None]
         if last is not None and times:
@@ -154,7 +159,8 @@ class Run:
         """Takes a line of the program."""
         through = THROUGH.fullmatch(text)
         if through is not None:
-            self._settle(Through(self.numbers.of(int(through[1])) if int(through[1]) else 0, int(through[2]), int(through[4])))
+            self._settle(Through(self.numbers.of(int(through[1])) if int(through[1]) else 0, int(through[2]),
+                                 int(through[4])))
         elif LAST.fullmatch(text) is not None:
             self._sums.append(text)
         else:
@@ -172,7 +178,8 @@ class Run:
     def _found(self, found: Finding, now: float) -> None:
         if not any(found.line in some for some in self.numbers.told()):
             return
-        finding = found._replace(line=self.numbers.of(found.line), related=None if found.related is None else self.numbers.of(found.related))
+        finding = found._replace(line=self.numbers.of(found.line),
+                                 related=None if found.related is None else self.numbers.of(found.related))
         # Such an entry is counted as not audited, or as audited in part, and has no finding.
         if finding.line in self.window.low:
             return
@@ -188,7 +195,8 @@ class Run:
     # What is told
 
     def told(self, now: float, is_end: bool = False) -> Optional[Telling]:
-        """The findings that can be told now, with their effects; those whose ignored commits are not all there yet wait for a little."""
+        """The findings that can be told now, with their effects; those whose ignored commits are not all there yet
+        wait for a little."""
         if not self._waiting:
             return None
         ready: list[Waiting] = []
@@ -202,7 +210,8 @@ class Run:
         for finding in findings:
             self._keep_entry(finding.line)
         report = Report(findings, len(self.trace.entries), "dirty")
-        return telling_of(told_of(self.trace, report), self.trace, self.names, "the trace", report, Looked(0, 0, 0), Coverage())
+        return telling_of(told_of(self.trace, report), self.trace, self.names, "the trace", report, Looked(0, 0, 0),
+                          Coverage())
 
     def _keep_entry(self, line: int) -> None:
         if line not in self.trace.entries:
@@ -220,9 +229,11 @@ class Run:
         return bool(self.trace.commits) and high <= self.trace.commits.ats[-1]
 
     def coverage(self) -> Coverage:
-        """What of the lines so far was looked at: by the import, and of what it placed by the state that the run began with."""
-        struck, in_part = Counter({causes.SNAPSHOT_TOO_OLD: len(self.window.low)}), {causes.VERSION_LET_GO: self._let_go}
-        return self.stream.coverage().plus(Coverage(0, {cause: count for cause, count in in_part.items() if count})).without(+struck)
+        """What of the lines so far was looked at: by the import, and of what it placed by the state that the run
+        began with."""
+        struck = +Counter({causes.SNAPSHOT_TOO_OLD: len(self.window.low)})
+        in_part = {causes.VERSION_LET_GO: self._let_go} if self._let_go else {}
+        return self.stream.coverage().plus(Coverage(0, in_part)).without(struck)
 
     # The end
 

@@ -1,7 +1,8 @@
 """An import that stays in memory between the lines that it is given, a few at a time.
 
-It takes lines by the rules of `ne import events --go-on`, and writes lines of a trace for them. What it cannot know of lines to come it does
-not know: who gives it lines holds those back that others behind them may still move (`holding.py`).
+It takes lines by the rules of `ne import events --go-on`, and writes lines of a trace for them. What it cannot know
+of lines to come it does not know: who gives it lines holds those back that others behind them may still move
+(`holding.py`).
 """
 import marshal
 from collections import Counter
@@ -40,11 +41,13 @@ class Chunk(NamedTuple):
 
 
 class NewStrata(Exception):
-    """Lines by which relations need other strata than the lines before were written with: they have to begin another trace."""
+    """Lines by which relations need other strata than the lines before were written with: they have to begin another
+    trace."""
 
 
 class Numbering:
-    """The timestamps of revisions as `going_on.numbered` gives them; all are gone through only where one stands between two others."""
+    """The timestamps of revisions as `going_on.numbered` gives them; all are gone through only where one stands
+    between two others."""
 
     def __init__(self, before: list[Named]):
         self.rows: list[Named] = []
@@ -84,7 +87,8 @@ class Stream(Core):
         self.strata: dict[Name, int] = {}
         self._rules = 0
         # what the runs before know of versions, and whether they may lack some
-        self._before_issued: set[tuple[str, str, str]] = set() if before is None else {(row[0][0], row[0][1], row[0][2]) for row in before.issued}
+        self._before_issued: set[tuple[str, str, str]] = set() if before is None else {(row[0][0], row[0][1],
+            row[0][2]) for row in before.issued}
         self._is_unknown_before = before is not None and (before.is_older or before.has_gap or before.has_lost_version)
 
     def take(self, chunk: Chunk) -> bytes:
@@ -96,7 +100,8 @@ class Stream(Core):
         else:
             self._start(lines)
         self.taken.take_all(self._stream(lines), Spans(lines.spans() if lines.facts.has_groups else ()))
-        names = [(name, relation) for name in self.declared.rules.current for relation in self.declared.rules.relations(name)]
+        names = [(name, relation) for name in self.declared.rules.current
+                 for relation in self.declared.rules.relations(name)]
         self._open_circles(names)
         strata = choose(names, self.edges, self.refusals)
         self._refuse()
@@ -185,12 +190,14 @@ class Stream(Core):
         yield "".join(self._texts(rows, shown, self.counts)).encode()
 
     def issues(self, of: str, thing: str, label: str) -> bool:
-        """Whether a check of a version can be placed: the version is known, or what may have issued it is known to be missing."""
+        """Whether a check of a version can be placed: the version is known, or what may have issued it is known to be
+        missing."""
         key = (of, thing, label)
         if not self.is_begun:
             return key in self._before_issued or self._is_unknown_before
         taken = self.taken
-        return key in taken.issued or key in self.refusals.versions or taken.may_be_older or taken.has_gap or self.refusals.has_lost_version
+        is_lost = taken.may_be_older or taken.has_gap or self.refusals.has_lost_version
+        return is_lost or key in taken.issued or key in self.refusals.versions
 
     def last_revision(self) -> int:
         """That of the last commit, or of the base state; -1 before the first line."""
@@ -199,7 +206,8 @@ class Stream(Core):
     def coverage(self) -> Coverage:
         """What of the lines so far stands in the trace."""
         counts = self.total
-        return self.refusals.coverage(counts.checks + counts.contents, Counter(counts.in_part), counts.since, counts.until)
+        return self.refusals.coverage(counts.checks + counts.contents, Counter(counts.in_part), counts.since,
+                                      counts.until)
 
     def told(self) -> Iterator[str]:
         """As an import of all lines says it."""
@@ -212,5 +220,6 @@ class Stream(Core):
 
     def leave(self) -> Left:
         """What the next run goes on from."""
-        left = going_on.left_by(SERVICE, self._before, self.declared, self.strata, self.edges, self.taken, self.numbering.rows, None)
+        left = going_on.left_by(SERVICE, self._before, self.declared, self.strata, self.edges, self.taken,
+                                self.numbering.rows, None)
         return going_on.with_left_out(left, self.refusals, self.taken)

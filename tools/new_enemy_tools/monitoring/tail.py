@@ -12,11 +12,13 @@ from new_enemy_tools.monitoring.stream import Chunk
 
 PIECE = 1 << 20
 NAME = re.compile(r"([0-9]{6,})\.jsonl(?:\.gz)?")
+AS_WRITTEN = "give the file as tools/record wrote it"
 START, LOG, CLOSED = b'{"event":"', b'{"event":"log"', b'{"event":"closed"'
 
 
 class Place(NamedTuple):
-    """Where a run begins: the number of a file, how many of its lines stand before, and the hash of the file before it."""
+    """Where a run begins: the number of a file, how many of its lines stand before, and the hash of the file before
+    it."""
 
     file: int = 1
     lines: int = 0
@@ -65,7 +67,8 @@ class Tail:
         self.befores = {number: one for number, one in self.befores.items() if number >= before}
 
     def read(self) -> Optional[Chunk]:
-        """More whole lines; None where there are none now. Raises MonitorFault where the log is not one that goes on so."""
+        """More whole lines; None where there are none now. Raises MonitorFault where the log is not one that goes on
+        so."""
         while self._open():
             chunk = self._lines()
             if chunk is not None:
@@ -88,7 +91,8 @@ class Tail:
                 continue
         others = [int(found[1]) for found in map(NAME.fullmatch, os.listdir(self.folder)) if found]
         if any(number > self.number for number in others):
-            raise MonitorFault("file %d of the log in %s is missing, and others go on from it; give it back" % (self.number, self.folder))
+            raise MonitorFault("file %d of the log in %s is missing, and others go on from it; give it back"
+                               % (self.number, self.folder))
         return False
 
     def _next(self) -> None:
@@ -113,8 +117,8 @@ class Tail:
                 return None
             first, lines = self._count + 1, data[:end]
             if self._is_closed:
-                raise MonitorFault("%s:%d: lines stand behind the one that closes the file; give the file as tools/record wrote it"
-                                   % (path, first))
+                raise MonitorFault("%s:%d: lines stand behind the one that closes the file; %s"
+                                   % (path, first, AS_WRITTEN))
             self._check(path, lines, first)
             self._at += end
             self._count += lines.count(b"\n")
@@ -136,7 +140,8 @@ class Tail:
             return
         found = os.fstat(self._file.fileno())
         if found.st_size < self._at and not os.path.exists(path + ".gz"):
-            raise MonitorFault("%s was cut behind line %d, and lines were read behind that; give it back as it was" % (path, self._count))
+            raise MonitorFault("%s was cut behind line %d, and lines were read behind that; give it back as it was"
+                               % (path, self._count))
         if found.st_nlink == 0 and not os.path.exists(path + ".gz"):
             raise MonitorFault("%s was taken away, or is another file now; begin another folder of the monitor" % path)
 
@@ -144,7 +149,8 @@ class Tail:
         """Looks at the lines of the chain, and that each is one as a recorder writes them."""
         if not lines.startswith(START) or lines.count(b"\n" + START) + 1 != lines.count(b"\n"):
             odd = next(place for place, line in enumerate(lines.split(b"\n")) if not line.startswith(START))
-            raise MonitorFault("%s:%d: the line is none that tools/record writes; give the folder as its recorder left it" % (path, first + odd))
+            raise MonitorFault("%s:%d: the line is none that tools/record writes; give the folder as its recorder "
+                               "left it" % (path, first + odd))
         if first == 1:
             self._check_head(path, lines[:lines.find(b"\n")])
         at = lines.rfind(b"\n", 0, -1) + 1
@@ -155,16 +161,18 @@ class Tail:
         self._hash.update(lines[:at])
         said, count = _value(last), self._count + lines.count(b"\n") - 1
         if (said.get("count"), said.get("sha256")) != (count, self._hash.hexdigest()):
-            raise MonitorFault("%s:%d: the file was changed or cut after it was written: its last line tells of other lines than these; give the "
-                               "file as tools/record wrote it" % (path, count + 1))
+            raise MonitorFault("%s:%d: the file was changed or cut after it was written: its last line tells of other "
+                               "lines than these; %s" % (path, count + 1, AS_WRITTEN))
         self._is_closed = True
 
     def _check_head(self, path: str, line: bytes) -> None:
         head = _value(line)
         if not line.startswith(LOG) or head.get("number") != self.number:
-            raise MonitorFault("%s:1: this is no file of a recorder's log; give the folder that tools/ne record writes (--out)" % path)
+            raise MonitorFault("%s:1: this is no file of a recorder's log; give the folder that tools/ne record writes "
+                               "(--out)" % path)
         if head.get("before") != self.before:
-            raise MonitorFault("%s:1: it goes on from another file than the one before it; give the files of one log, as tools/record wrote them" % path)
+            raise MonitorFault("%s:1: it goes on from another file than the one before it; give the files of one log, "
+                               "as tools/record wrote them" % path)
 
 
 def _value(line: bytes) -> dict[str, Any]:
