@@ -65,7 +65,7 @@ class Disk:
     def __init__(self):
         self.rows = []
         self.runs = [(Begun(None, NOTHING, Ids()), Left({}, []), 0)]
-        self.counts = Counter()
+        self.counts, self.entries = Counter(), 0
 
 
 class Receiver:
@@ -139,6 +139,7 @@ class Life:
         self.step()
         self.disk.runs.append((begun, json_left(left), at))
         self.disk.counts.update(counts)
+        self.disk.entries += self.run.entries
         self.step()
         self.disk.rows[:] = list(self.core.kept_rows())
         self.step()
@@ -171,7 +172,7 @@ def json_left(left):
 
 
 def told_by(lines, random, kills, has_between, lives=200):
-    """The alerts that each receiver got, and the findings that were counted, of a monitor that is begun again when it
+    """The alerts that each receiver got, and what was counted, of a monitor that is begun again when it
     is killed; and how often it was."""
     disk, settings = Disk(), Settings(("one", "two"), again=float("inf"), hold=0.0,
                                       effects=frozenset(("wrong", "changed", "undecided", "possible", "none")))
@@ -179,7 +180,7 @@ def told_by(lines, random, kills, has_between, lives=200):
     for life in range(lives + 1):
         try:
             Life(lines, disk, receivers, random, kills if life < lives else 0.0, has_between, settings).live()
-            return {name: one.got for name, one in receivers.items()}, disk.counts, life
+            return {name: one.got for name, one in receivers.items()}, disk, life
         except Killed:
             pass
     raise AssertionError("it lives for ever")

@@ -242,6 +242,18 @@ class Growing(Monitoring):
         self.assertEqual(run.returncode, 2)
         self.assertIn("by ne monitor", run.stderr)
 
+    def test_it_goes_on_in_the_next_file(self):
+        """Where a run has ended with a file, the next one begins with the first line of the file behind it."""
+        events = [RULES, BASE, PLACE, *timed(events_of(Random("files of a monitor"), 200)), write(10 ** 6, rel("none"))]
+        files = files_of(events, [50, 70])
+        for number in range(1, 4):
+            self.put_log(files[:number])
+            self.ends(self.monitor("--once", "--keep-snapshots", "100"))
+        day = {one[:2] for one in self.day()}
+        self.assertGreater(len(day), 20)
+        self.assertEqual({one[:2] for one in self.days_told("out/days")}, day)
+        self.assertEqual(sorted(os.listdir(self.path("out/days"))), ["day000001", "day000002", "day000003", "lock"])
+
     def test_what_is_refused(self):
         """By name, with the line; it is told as an alert too, and once."""
         events = [RULES, BASE, PLACE, write(2, rel()), check(2)]
@@ -271,8 +283,8 @@ class Growing(Monitoring):
         self.put_log([files_of(events, [])[0]])
         os.rename(self.path("log/000001.jsonl"), self.path("log/000002.jsonl"))
         self.ends(self.monitor("--once", out="missing"), 2)
-        self.assertIn("file 1 of the log in log is missing, and others go on from it; give it back",
-                      self.get("monitor.err"))
+        self.assertEqual([row["said"] for row in self.told()], ["the monitor stopped, and nothing is audited: file 1 of the log in "
+                                                                "log is missing, and others go on from it; give it back"])
         self.ends(self.monitor(log="none"), 5)
 
     def test_two_at_once(self):

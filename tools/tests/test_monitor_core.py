@@ -26,6 +26,13 @@ def log_of(random, has_between):
     return [RULES, BASE, PLACE, *events, write(10 ** 6, rel("none"))]
 
 
+def by_finding(counts):
+    found = Counter()
+    for (finding, _), count in counts.items():
+        found[finding] += count
+    return found
+
+
 class Simulated(CoreCase):
     def findings(self, log):
         """How many findings of each kind the whole log has."""
@@ -41,11 +48,10 @@ class Simulated(CoreCase):
 
     def compare(self, log, random, has_between, number):
         """What an unbroken monitor tells, which is what one tells that is killed; and how often that was."""
-        whole, counts, _ = told_by(lines_of(log), random, 0.0, has_between)
-        found = Counter()
-        for (finding, _), count in counts.items():
-            found[finding] += count
-        self.assertEqual(found, self.findings(log), number)
+        whole, kept, _ = told_by(lines_of(log), random, 0.0, has_between)
+        self.assertEqual(by_finding(kept.counts), self.findings(log), number)
+        entries = [row for row in self.rows("trace.jsonl") if row["kind"] in ("check", "content")]
+        self.assertEqual(kept.entries, len(entries))
         broken, _, lives = told_by(lines_of(log), random, 0.01, has_between)
         wanted = {row["id"]: row for row in whole["two"]}
         self.assertEqual(len(wanted), len(whole["two"]), "told twice")
@@ -81,11 +87,10 @@ class Simulated(CoreCase):
                         event[key] += 1
             log.insert(place, write(revision + 1, rel("staff", "member", "1", "doc", "reader", of="team"),
                                     time=log[place].get("time")))
-            whole, counts, _ = told_by(lines_of(log), random, 0.0, False)
+            whole, kept, _ = told_by(lines_of(log), random, 0.0, False)
             broken, again, _ = told_by(lines_of(log), random, 0.01, False)
-            for found in counts, again:
-                self.assertEqual(sum((Counter({finding: count}) for (finding, _), count in found.items()), Counter()),
-                                 self.findings(log))
+            for disk in kept, again:
+                self.assertEqual(by_finding(disk.counts), self.findings(log))
             # Where the runs end hangs on which lines came together.
             self.assertEqual(*({row["id"].partition(".")[0] for row in told["two"]} for told in (whole, broken)))
 

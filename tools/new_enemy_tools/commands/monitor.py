@@ -28,7 +28,6 @@ from new_enemy_tools.monitoring.machine import Machine, Way
 from new_enemy_tools.monitoring.receivers import SYSLOG, Command, Output, Receiver, Syslog, Webhook
 from new_enemy_tools.recording.command import address_of, url_of
 from new_enemy_tools.shown import tell
-from new_enemy_tools.windowing.run import Refused
 
 # A program takes so many bytes in a run; the lines of the state come before.
 MOST_BYTES = limits.INPUT_BYTES // 2
@@ -148,18 +147,26 @@ def main(words: list[str]) -> int:
     way = way_of(parser, given)
     if not os.path.isdir(way.log):
         raise DeviceFault("cannot open %s: it is no folder; give that of a recorder's log (ne record --out)" % way.log)
-    machine = Machine(way)
+    return ran(Machine(way), way)
+
+
+def ran(machine: Machine, way: Way) -> int:
+    """The status of a monitor that has stopped; why it can't go on is told as an alert, too."""
     fault: Optional[str] = None
     status = 0
     try:
         machine.serve()
         machine.hear_signals()
-        tell("monitor: reading %s, and keeping %s" % (way.log, given.out), sys.stderr)
+        machine.begin()
+        tell("monitor: reading %s, and keeping %s" % (way.log, way.folder), sys.stderr)
         machine.live()
     except ToolFault as ended:
         fault, status = str(ended), ended.status
-    except Refused as refused:
-        fault, status = refused.answer.error or "the program refuses the trace", 2
+    except OSError as failed:
+        fault, status = ": ".join(str(said) for said in (failed.filename, failed.strerror) if said), 5
+    except Exception as odd:
+        machine.stop("a fault of the tool itself: %s: %s" % (type(odd).__name__, odd))
+        raise
     if fault is not None:
         tell("monitor: %s" % fault, sys.stderr)
     machine.stop(fault)

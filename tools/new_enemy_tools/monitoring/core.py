@@ -72,7 +72,8 @@ class Core:
     def __init__(self, settings: Settings, rows: Iterable[Row]):
         self.settings = settings
         self.delivery = Delivery(settings.receivers)
-        self.next = 1
+        # of the run, and of the next alert
+        self.number, self.next = 0, 1
         # findings by kind and effect, in all; and in the runs that have ended
         self.counts: Counter[tuple[str, str]] = Counter()
         self.ended: Counter[tuple[str, str]] = Counter()

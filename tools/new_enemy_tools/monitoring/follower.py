@@ -9,22 +9,9 @@ from new_enemy_tools.faults import DeviceFault
 from new_enemy_tools.windowing.auditing import LinesFeeder
 
 
-class Said(NamedTuple):
-    """A line that the program said in a run, by the run's number."""
-
-    run: int
-    line: str
-
-
-class Ended(NamedTuple):
-    """The program says no more."""
-
-    run: int
-
-
 class Follower:
-    def __init__(self, program: str, run: int, inbox: "SimpleQueue[Any]"):
-        self.program, self.run, self.inbox = program, run, inbox
+    def __init__(self, program: str, inbox: "SimpleQueue[Any]"):
+        self.program, self.inbox = program, inbox
         self._error = tempfile.TemporaryFile()
         try:
             self._process = subprocess.Popen([program, "follow", "--heartbeat"], stdin=subprocess.PIPE,
@@ -39,8 +26,8 @@ class Follower:
     def _read(self) -> None:
         assert self._process.stdout is not None
         for line in self._process.stdout:
-            self.inbox.put(Said(self.run, line.decode("utf-8", "replace").rstrip("\n")))
-        self.inbox.put(Ended(self.run))
+            self.inbox.put(Said(self, line.decode("utf-8", "replace").rstrip("\n")))
+        self.inbox.put(Ended(self))
 
     def feed(self, data: bytes) -> None:
         # The program has what it can read at once; a line is never held back here.
@@ -64,3 +51,16 @@ class Follower:
         self._process.kill()
         self._process.wait()
         self._feeder.stop()
+
+
+class Said(NamedTuple):
+    """A line that a program said."""
+
+    by: Follower
+    line: str
+
+
+class Ended(NamedTuple):
+    """A program says no more."""
+
+    by: Follower

@@ -60,9 +60,13 @@ class Machine:
         self.began = self.looked = time.monotonic()
         self.shown, self.is_well = "", False
         self.tail: Optional[Tail] = None
-        self._begin(None)
+        self.follower: Optional[Follower] = None
 
     # Runs
+
+    def begin(self) -> None:
+        """Begins the first run of this monitor."""
+        self._begin(None)
 
     def _begin(self, holding: Optional[Holding], stop: Optional[tuple[str, int]] = None) -> None:
         """Begins a run with the lines that are held; without these anew, from where the last one that was kept has
@@ -73,7 +77,7 @@ class Machine:
             self.tail = Tail(self.way.log, start.place)
             holding = Holding(self.way.settings.hold, self.days.last is not None, stop)
         self.file = RunFile(self.days.work("trace"), start.begun.state.head.lines)
-        self.follower = Follower(self.way.options.program, number, self.inbox)
+        self.follower = Follower(self.way.options.program, self.inbox)
         self.is_fed = False
         # What tells of a log's service is its first line, and no run needs to know it before.
         self.run = Run(start.begun, self._has_between(), self.file.line)
@@ -87,7 +91,7 @@ class Machine:
 
     def _end_run(self, why: str) -> None:
         given, run, now = self.way.options, self.run, time.monotonic()
-        assert self.tail is not None
+        assert self.tail is not None and self.follower is not None
         carry = run.close(carrying.Keep(None, given.keep_snapshots, given.keep_versions))
         status = self.follower.end()
         self._hear_all()
@@ -150,12 +154,13 @@ class Machine:
     def _take(self, message: Any) -> None:
         now = time.monotonic()
         if isinstance(message, Said):
-            if message.run == self.core.number:
+            # What one said that was stopped is of a run that was begun anew.
+            if message.by is self.follower:
                 self.core.said(message.line, now)
         elif isinstance(message, Answered):
             self._do(self.core.answered(message.receiver, message.number, message.fault, now))
-        elif isinstance(message, Ended) and message.run == self.core.number and not self.run.is_closed:
-            raise MonitorFault("the program refuses the trace: %s" % self.follower.fault())
+        elif isinstance(message, Ended) and message.by is self.follower and not self.run.is_closed:
+            raise MonitorFault("the program refuses the trace: %s" % message.by.fault())
 
     # What is to be done
 
@@ -164,6 +169,7 @@ class Machine:
         anew: Optional[BeginAnew] = None
         for out in outs:
             if isinstance(out, Feed):
+                assert self.follower is not None
                 self.file.add(out.data)
                 self.follower.feed(out.data if self.is_fed else self.run.front() + out.data)
                 self.is_fed = True
@@ -176,7 +182,7 @@ class Machine:
             else:
                 self.journal.sync()
                 self.tellers[out.receiver].put(out)
-        if anew is not None:
+        if anew is not None and self.follower is not None:
             self.follower.stop()
             self._begin(None, anew.stop)
         elif ended is not None:
@@ -199,8 +205,8 @@ class Machine:
         """Tells what waits for a little, and keeps the rest for the next monitor."""
         if fault is not None:
             self._do(self.core.stopped(fault))
-        until = time.monotonic() + (PATIENCE if not self.way.is_once or fault is not None else float("inf"))
-        while not self.core.delivery.is_idle and time.monotonic() < until:
+        until = time.monotonic() + PATIENCE
+        while not self.core.delivery.is_idle and (time.monotonic() < until or self._waits_for_all(fault)):
             self._do(self.core.due(time.monotonic()))
             try:
                 message = self.inbox.get(timeout=POLL)
@@ -209,9 +215,13 @@ class Machine:
             if isinstance(message, Answered):
                 self._take(message)
         self.journal.close()
-        self.follower.stop()
+        if self.follower is not None:
+            self.follower.stop()
         self.days.end()
         self.days.close()
+
+    def _waits_for_all(self, fault: Optional[str]) -> bool:
+        return self.way.is_once and fault is None and not self.is_stopping
 
     def serve(self) -> None:
         """Answers on the address of the metrics, in a thread of its own; raises DeviceFault where it can't."""

@@ -20,7 +20,7 @@ class Before(NamedTuple):
     def plus(self, core: Core) -> "Before":
         """With those of the run that goes on."""
         coverage = core.coverage()
-        return Before(self.entries + core.run.through.entries, _sum(self.not_audited, coverage.not_audited),
+        return Before(self.entries + core.run.entries, _sum(self.not_audited, coverage.not_audited),
                       _sum(self.in_part, coverage.in_part), _sum(self.lost, coverage.lost),
                       self.gaps + coverage.uncounted)
 

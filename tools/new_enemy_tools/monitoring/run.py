@@ -85,6 +85,7 @@ class Run:
         self.newest: Optional[int] = None
         self._waiting: list[Waiting] = []
         self._is_fed = False
+        self._known = 0
         # what the program said of the window: its findings in order, and the lines behind the last
         self._output: list[Finding] = []
         self._sums: list[str] = []
@@ -117,6 +118,7 @@ class Run:
         old = with_strata(self.begun.state, strata_in(text[:text.find(b"\n") + 1]))
         self.window, self.carried = Window(old), carried_lines(old.rows)
         self.numbers = Numbers(self.carried, old.head.lines)
+        self._known = sum(row.kind == "v" for row in self.carried)
         for row in sorted(self.carried, key=lambda row: row.line):
             self._keep(row.line, row.raw)
 
@@ -159,8 +161,9 @@ class Run:
         """Takes a line of the program."""
         through = THROUGH.fullmatch(text)
         if through is not None:
-            self._settle(Through(self.numbers.of(int(through[1])) if int(through[1]) else 0, int(through[2]),
-                                 int(through[4])))
+            line, entries, is_open = int(through[1]), int(through[2]), int(through[4])
+            # The content checks that a state has were settled in the runs before.
+            self._settle(Through(self.numbers.of(line) if line else 0, max(0, entries - self._known), is_open))
         elif LAST.fullmatch(text) is not None:
             self._sums.append(text)
         else:
@@ -242,6 +245,15 @@ class Run:
         refuse_twice(self.window)
         self._carry, self._early = carried(self.window, keep, {}), len(self._output)
         return self._carry
+
+    @property
+    def entries(self) -> int:
+        """How many entries are audited and settled, up to the first that is not; at the end of the run all that the
+        next one does not have."""
+        if self._carry is None:
+            return self.through.entries
+        waited = sum(row.kind == "h" for row in self.carried)
+        return self.window.entries + waited - len(self._carry.held) - len(self._carry.given_up) - len(self.window.low)
 
     @property
     def is_closed(self) -> bool:

@@ -102,6 +102,7 @@ class Tail:
         self._file, self.before = None, self._hash.hexdigest()
         self.number, self._skip = self.number + 1, 0
         self.befores[self.number] = self.before
+        self._begin()
 
     def _lines(self) -> Optional[Chunk]:
         """More lines of the file that is open, behind those before the place where this began."""
@@ -117,8 +118,7 @@ class Tail:
                 return None
             first, lines = self._count + 1, data[:end]
             if self._is_closed:
-                raise MonitorFault("%s:%d: lines stand behind the one that closes the file; %s"
-                                   % (path, first, AS_WRITTEN))
+                self._refuse_behind(path, first)
             self._check(path, lines, first)
             self._at += end
             self._count += lines.count(b"\n")
@@ -154,7 +154,9 @@ class Tail:
         if first == 1:
             self._check_head(path, lines[:lines.find(b"\n")])
         at = lines.rfind(b"\n", 0, -1) + 1
-        last = lines[at:]
+        last, closing = lines[at:], (b"\n" + lines).find(b"\n" + CLOSED)
+        if 0 <= closing < at:
+            self._refuse_behind(path, first + lines.count(b"\n", 0, closing) + 1)
         if not last.startswith(CLOSED):
             self._hash.update(lines)
             return
@@ -164,6 +166,10 @@ class Tail:
             raise MonitorFault("%s:%d: the file was changed or cut after it was written: its last line tells of other "
                                "lines than these; %s" % (path, count + 1, AS_WRITTEN))
         self._is_closed = True
+
+    @staticmethod
+    def _refuse_behind(path: str, line: int) -> None:
+        raise MonitorFault("%s:%d: lines stand behind the one that closes the file; %s" % (path, line, AS_WRITTEN))
 
     def _check_head(self, path: str, line: bytes) -> None:
         head = _value(line)
