@@ -287,6 +287,18 @@ class Growing(Monitoring):
                                                                 "log is missing, and others go on from it; give it back"])
         self.ends(self.monitor(log="none"), 5)
 
+    def test_a_journal_that_was_altered(self):
+        """What was written by half is cut; a row that is none is refused, since an alert may be lost with it."""
+        self.put_log(files_of([RULES, BASE, PLACE, write(5, rel()), check(5, False)], []))
+        self.ends(self.monitor("--once"))
+        rows = self.get("out/alerts.jsonl")
+        self.put("out/alerts.jsonl", rows + '{"alert":9,"run":')
+        self.ends(self.monitor("--once"))
+        self.put("out/alerts.jsonl", "no row\n" + rows)
+        self.ends(self.monitor("--once"), 2)
+        self.assertIn("out/alerts.jsonl:1: this is no row that a monitor wrote", self.get("monitor.err"))
+        self.assertEqual([row["alert"] for row in self.told()], [1])
+
     def test_two_at_once(self):
         self.put_log([files_of([RULES, BASE, PLACE], [])[0]])
         one = self.monitor()

@@ -6,7 +6,7 @@ again.
 """
 import json
 from hashlib import blake2b
-from typing import Any, Iterable, Iterator, NamedTuple, Optional
+from typing import Any, NamedTuple, Optional
 
 from new_enemy_tools.effects import MEANT, Told
 from new_enemy_tools.forms import row_of, sentence
@@ -157,14 +157,3 @@ def _event(event: Event) -> Row:
 
 def line_of(row: Row) -> str:
     return json.dumps(row, ensure_ascii=False, separators=(",", ":"))
-
-
-def read_rows(lines: Iterable[bytes]) -> Iterator[Row]:
-    """The rows of a journal; the last line of one that was killed may be cut, and was not kept then."""
-    for line in lines:
-        try:
-            value = json.loads(line) if line.endswith(b"\n") else None
-        except ValueError:
-            value = None
-        if isinstance(value, dict):
-            yield value

@@ -1,8 +1,10 @@
 """The rows that a monitor keeps of its alerts: a file that grows, and is written anew when a run begins."""
+import json
 import os
 from typing import IO, Iterable, Optional
 
-from new_enemy_tools.monitoring.alerts import Row, line_of, read_rows
+from new_enemy_tools.monitoring.alerts import Row, line_of
+from new_enemy_tools.monitoring.faults import MonitorFault
 
 
 class Journal:
@@ -12,13 +14,25 @@ class Journal:
         self._is_synced = True
 
     def read(self) -> list[Row]:
-        """The rows that are there. What a monitor that was killed wrote by half is cut."""
+        """The rows that are there; raises MonitorFault where one is none. What a monitor that was killed wrote by half
+        is cut."""
         if not os.path.exists(self.path):
             return []
         with open(self.path, "rb+") as file:
             data = file.read()
-            file.truncate(data.rfind(b"\n") + 1)
-        return list(read_rows(data.splitlines(True)))
+            end = data.rfind(b"\n") + 1
+            file.truncate(end)
+        return [self._row(number, line) for number, line in enumerate(data[:end].splitlines(), 1)]
+
+    def _row(self, number: int, line: bytes) -> Row:
+        try:
+            value = json.loads(line)
+        except ValueError:
+            value = None
+        if not isinstance(value, dict):
+            raise MonitorFault("%s:%d: this is no row that a monitor wrote, and alerts may be lost with it; take the file "
+                               "away to go on without the alerts that wait in it" % (self.path, number))
+        return value
 
     def add(self, row: Row) -> None:
         if self._file is None:
