@@ -24,7 +24,7 @@ from new_enemy_tools.commands.monitor import given_of
 from new_enemy_tools.monitoring.receivers import Syslog
 from tests.ports import free_port
 from tests.recorded import Client, Recorded
-from tests.support import EXAMPLES, NE
+from tests.support import EXAMPLES, NE, TOP
 from tests.test_core import check, content, rel, write
 from tests.test_going_on import RULES, events_of
 from tests.test_recording_openfga import MODEL
@@ -374,6 +374,21 @@ class Receivers(Hooked):
         self.ends(self.monitor("--once", "--webhook", url, "--secret", "secret"))
         self.assertEqual([(row["kind"], row["first"], row["count"]) for row, _ in server.got[2:]], [("again", 1, 2)])
 
+    def test_a_story_that_goes_on(self):
+        """It is told with its count, as often as --again says."""
+        doc = rel("plan", "viewer", "bob")
+        events = timed([RULES, BASE, PLACE, write(5, doc), write(10, remove=[doc]), *[check(10, True, doc)] * 4])
+        lines = files_of(events, [])[0].splitlines(True)
+        self.put_log([b"".join(lines[:7])])
+        one = self.monitor("--again", "1")
+        self.wait_for(lambda: self.told())
+        with open(self.path("log/000001.jsonl"), "ab") as file:
+            file.write(b"".join(lines[7:]))
+        self.wait_for(lambda: len(self.told()) == 2)
+        self.stop(one)
+        again = self.told()[1]
+        self.assertEqual([again[key] for key in ("kind", "first", "count", "more", "until")], ["again", 1, 4, 3, "2026-11-26T10:00:08Z"])
+
     def test_a_webhook_that_is_not_there(self):
         """The alerts wait on the disk, and a later monitor tells them."""
         self.log()
@@ -493,6 +508,13 @@ class Examples(Monitoring):
         made = self.put(UNIT.replace("@", "@x"), self.text(UNIT).replace("/usr/bin/new-enemy-tools", "/bin/true"))
         run = subprocess.run(["systemd-analyze", "verify", made], capture_output=True, text=True, timeout=300)
         self.assertNotIn("Unknown", run.stderr)
+
+    def test_what_the_image_needs_is_there(self):
+        copied = [word for line in self.text("Containerfile").splitlines() if line.startswith("COPY ") for word in line.split()[1:-1]]
+        self.assertEqual([os.path.exists(os.path.join(TOP, word)) for word in copied], [True] * 3)
+        started = json.loads(re.search("ENTRYPOINT (.+)", self.text("Containerfile"))[1])
+        _, given = given_of([*started[3:], "--syslog"])
+        self.assertEqual((given.log, given.out), ("/log", "/watched"))
 
     def test_the_board_asks_for_what_there_is(self):
         """Each number of the board is one that the monitor gives, with the labels that the board names."""

@@ -121,7 +121,8 @@ class Core:
     def begin(self, run: Run, number: int, left: Left, holding: Holding, now: float) -> None:
         """Begins a run; or begins it anew, after a monitor that was killed in it."""
         self.run, self.number, self.holding, self.counts = run, number, holding, Counter(self.ended)
-        self.stories = Stories(self.settings.effects, left.stories, self._told.get(number, {}), now)
+        self._told = {number: self._told.get(number, {})}
+        self.stories = Stories(self.settings.effects, left.stories, self._told[number], now)
         self._held = set(left.held)
 
     # What comes in
