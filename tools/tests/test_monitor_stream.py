@@ -8,12 +8,13 @@ from unittest import mock
 
 from new_enemy_tools.ids import Ids
 from new_enemy_tools.monitoring import holding as holding_of
+from new_enemy_tools.monitoring.faults import MonitorFault
 from new_enemy_tools.monitoring.holding import STATE_WAIT, WRITE_WAIT, Holding
 from new_enemy_tools.monitoring.run import Begun, Run
 from new_enemy_tools.monitoring.stream import Chunk
 from new_enemy_tools.windowing.run import NOTHING
 from tests.test_core import CoreCase, check, content, rel, write
-from tests.test_going_on import RULES, between, events_of
+from tests.test_going_on import NEWLY_READ, READ, RULES, UNREAD, between, events_of
 
 BASE = write(0, base=True)
 PLACE = {"event": "place", "revision": 0}
@@ -65,6 +66,24 @@ class Streamed(CoreCase):
         for finding in ("F1", "F2", "F3", "F4", "F5", "F6", "F10"):
             self.assertIn(finding, found)
 
+    def test_checks_that_asked_for_the_newest_state(self):
+        """They demand that of their version too, whenever that was issued."""
+        doc = rel("1", "viewer", "anne")
+        log = [RULES, BASE, write(5, doc), write(10, remove=[doc]), content(10, "v2", goal=doc, token=10),
+               check(5, True, doc, version="v2", newest=True)]
+        for number in range(5):
+            self.assertIn("F1 stale", self.compare(log, Random("newest %d" % number), False))
+        found = ""
+        for number in range(20):
+            random = Random("stream newest %d" % number)
+            log = events_of(random, 60)
+            for event in log:
+                if event["event"] == "check" and "version" in event:
+                    event.pop("token", None)
+                    event["newest"] = True
+            found += self.compare([RULES, BASE, *log], random, number % 2 == 0)
+        self.assertIn("F1", found)
+
     def test_checks_between_two_states(self):
         for number in range(20):
             random = Random("stream between %d" % number)
@@ -93,6 +112,20 @@ class Streamed(CoreCase):
             parts += self.get("trace.jsonl").count('"part"')
         self.assertIn("F6", found)
         self.assertGreater(parts, 10)
+
+    def test_rules_that_go_on_from_tuples_of_before(self):
+        """They are refused by name, since a right reply would be called wrong."""
+        log = [UNREAD, BASE, PLACE, write(1, rel("2"), rel("1", "parent", "2", "doc")), check(1, goal=rel("2")), READ, check(5, goal=rel("1", "reader"))]
+        refused = 0
+        for number in range(5):
+            try:
+                trace = self.stream(log, Random("tuplesets %d" % number))
+                # All came together.
+                self.assertIn("verdict clean", self.report(trace))
+            except MonitorFault as fault:
+                self.assertEqual(str(fault), "log:6: " + NEWLY_READ)
+                refused += 1
+        self.assertGreater(refused, 0)
 
 
 class Held(CoreCase):

@@ -142,6 +142,10 @@ class Stream(Core):
         self.commits_before = len(self.taken.states.revisions)
         new = [event for event in lines.rules if event.revision is not None]
         if new:
+            rules = self.declared.rules
+            known = {(name, relation) for name in rules.current for relation in rules.relations(name)}
+            going_on.refuse_new_tuplesets(new, known, self.declared.tuplesets, self.refusals)
+            self._refuse()
             self.declared.take(new)
             self.writer.tuple_edges.forget()
             for one in self.writer.stored:
@@ -151,7 +155,8 @@ class Stream(Core):
     def _times(self, strata: dict[Name, int]) -> dict[int, int]:
         if self.taken.base_revision is not None:
             self.taken.wanted.setdefault(self.taken.base_revision, 1)
-        return self.numbering.take(self.taken.wanted)
+        self.taken.named = self.numbering.take(self.taken.wanted)
+        return self.numbering.at
 
     def _shown(self, strata: dict[Name, int]) -> Shown:
         if self.is_written and any(strata[name] != stratum for name, stratum in self.strata.items()):
