@@ -79,7 +79,6 @@ class Machine:
         self.file = RunFile(self.days.work("trace"), start.begun.state.head.lines)
         self.follower = Follower(self.way.options.program, self.inbox)
         self.is_fed = False
-        # What tells of a log's service is its first line, and no run needs to know it before.
         self.run = Run(start.begun, self._has_between(), self.file.line)
         self.core.begin(self.run, number, start.left, holding, time.monotonic())
 
