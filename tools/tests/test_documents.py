@@ -53,7 +53,8 @@ class Transcripts(Shown):
     def test_every_example_and_document(self):
         documents = [["README.md"], *(["docs", name] for name in PAGES)]
         commands = {names[-1]: [command for command, _ in transcripts(read(*names))] for names in documents}
-        self.assertEqual([name for name in commands if commands[name]], ["README.md", "DAILY.md", "FORMATS.md", "IMPORTING.md", "RECORDING.md", "REPORTS.md", "SCALE.md", "TUTORIAL.md"])
+        self.assertEqual([name for name in commands if commands[name]], ["README.md", "DAILY.md", "FORMATS.md", "IMPORTING.md", "MONITORING.md", "RECORDING.md", "REPORTS.md", "SCALE.md",
+                         "TUTORIAL.md"])
         # The page on installing has its commands without a dollar sign; test_package runs these.
         shown = " ".join([*(command for each in commands.values() for command in each), read("docs", "INSTALLING.md")])
         for example in os.listdir(os.path.join(TOP, "examples")):

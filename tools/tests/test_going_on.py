@@ -20,6 +20,13 @@ RULES = {"event": "rules", "namespaces": [
 OTHER = {"event": "rules", "namespaces": [{"name": "doc", "relations": [
     {"name": "viewer"}, {"name": "reader", "rewrite": {"computed": "viewer"}}]}]}
 
+UNREAD = {"event": "rules", "namespaces": [{"name": "doc", "relations": [{"name": "viewer"}, {"name": "parent"}, {
+    "name": "reader", "rewrite": {"computed": "viewer"}}]}]}
+READ = {"event": "rules", "revision": 5, "namespaces": [{"name": "doc", "relations": [{"name": "viewer"}, {"name": "parent"}, {
+    "name": "reader", "rewrite": {"union": [{"computed": "viewer"}, {"tuple_to": {"tupleset": "parent", "computed": "reader"}}]}}]}]}
+NEWLY_READ = ("a rule goes on from the tuples of doc#parent, as none did before, and those so far stand in the trace without what it reads: "
+              "import all of the log at once, or begin a new log")
+
 
 def between(event, low, high, newest):
     """The event between two states, in place of one."""
@@ -103,6 +110,22 @@ class GoingOn(CoreCase):
             found += self.compare([RULES, write(0, base=True), *events_of(random, 60)], random, "events", "log")
         for finding in ("F1", "F2", "F3", "F4", "F5", "F6", "F10"):
             self.assertIn(finding, found)
+
+    def test_a_check_that_asked_for_the_newest_state(self):
+        """It demands that of its version too, which a day before issued."""
+        doc = rel("1", "viewer", "anne")
+        log = [RULES, write(0, base=True), write(5, doc), write(10, remove=[doc]), content(10, "v2", goal=doc, token=10),
+               check(5, True, doc, version="v2", newest=True)]
+        for number in range(5):
+            self.assertIn("F1 stale", self.compare(log, Random("newest %d" % number), "events", "log"))
+
+    def test_rules_that_go_on_from_tuples_of_before(self):
+        """These stand in the trace without what such a rule reads, so a right reply would be called wrong."""
+        self.put("log", [UNREAD, write(0, base=True), write(1, rel("2"), rel("1", "parent", "2", "doc"))])
+        self.imported("events", "log", "--go-on", "left", "--trace", "one", "--ids", "ids")
+        self.put("log", [READ, check(5, goal=rel("1", "reader"))])
+        status, said = self.run_import("events", "log", "--go-on", "left", "--trace", "two", "--ids", "ids")
+        self.assertEqual((status, said.splitlines()), (2, ["log:1: " + NEWLY_READ, "refused 1"]))
 
     def test_checks_between_two_states(self):
         """What was stored on the days before is known from the state."""

@@ -266,7 +266,8 @@ class Debian(Used):
     def test_no_name_that_debian_has(self) -> None:
         """The package ne, an editor, has the command ne and its page."""
         listed = [line.split()[5] for line in done(["dpkg-deb", "--contents", made().deb], self.room).splitlines()]
-        self.assertIn("./usr/lib/systemd/system/new-enemy-recorder@.service", listed)
+        for unit in ("recorder", "monitor"):
+            self.assertIn("./usr/lib/systemd/system/new-enemy-%s@.service" % unit, listed)
         self.assertEqual([path for path in listed if path.startswith("./usr/bin/") and path != "./usr/bin/"],
                          ["./usr/bin/new_enemy", "./usr/bin/new-enemy-tools"])
         self.assertFalse([path for path in listed if os.path.basename(path).split(".")[0] in ("ne", "_ne") and "/lib/new_enemy/" not in path])

@@ -49,8 +49,8 @@ class OpenFga(Recorded):
         client.close()
 
 
-class Load(OpenFga):
-    """A thousand mixed requests by eight clients."""
+class Loaded(OpenFga):
+    """Mixed requests by several clients."""
 
     def setUp(self):
         super().setUp()
@@ -83,6 +83,10 @@ class Load(OpenFga):
             self.decisions.append(len(answer["objects"]))
         else:
             self.check(client, user, "viewer", random.choice(FIXED + EARLY + DOCUMENTS))
+
+
+class Load(Loaded):
+    """A thousand mixed requests by eight clients."""
 
     def recorded(self):
         return len(self.of_kind("check")) + len(self.of_kind("content"))

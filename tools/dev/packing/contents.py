@@ -15,8 +15,8 @@ VERSION = re.compile(rb'^VERSION = "([^"]+)"$', re.MULTILINE)
 # In Debian ne is an editor.
 DEBIAN_NAME = "new-enemy-tools"
 DEBIAN_DOCUMENTS = "usr/share/doc/new-enemy/"
-# Runs the recorder, once it is enabled for a service by name.
-UNIT = "new-enemy-recorder@.service"
+# These run the recorder and the monitor, once they are enabled for a service by name.
+UNITS = {"recorder": "new-enemy-recorder@.service", "monitor": "new-enemy-monitor@.service"}
 COPYRIGHT = """Format: https://www.debian.org/doc/packaging-manuals/copyright-format/1.0/
 Upstream-Name: new_enemy
 
@@ -97,7 +97,7 @@ def debian_files(commit: Commit, room: str) -> dict[str, File]:
     files = {"usr/lib/new_enemy/" + path.partition("/")[2]: file for path, file in _picked(commit, TOOLS).items()}
     files.update({DEBIAN_DOCUMENTS + path: file for path, file in _picked(commit, DOCUMENTS).items()})
     files["usr/bin/new_enemy"] = commit.files["dist/new_enemy"]
-    files["usr/lib/systemd/system/" + UNIT] = commit.files["examples/recorder/" + UNIT]
+    files.update({"usr/lib/systemd/system/" + unit: commit.files["examples/%s/%s" % (folder, unit)] for folder, unit in UNITS.items()})
     files["usr/bin/" + DEBIAN_NAME] = File(b"", link="../lib/new_enemy/ne")
     manual = manual_files(commit, shapes, "usr/share/man/man1/", "/" + DEBIAN_DOCUMENTS)
     files.update({path + ".gz": File(gzipped(file.data)) for path, file in manual.items()})

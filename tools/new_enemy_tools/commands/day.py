@@ -210,8 +210,12 @@ def made(days: Days, given: Namespace, digest: str, progress: Progress) -> int:
     if found.window.entries < given.at_least:
         raise WindowFault("the day has %d checks and content checks, and at least %d are wanted (--at-least)"
                           % (found.window.entries, given.at_least))
+    return kept(days, given, own, found, before.ids if given.service != "trace" else None, digest)
+
+
+def kept(days: Days, given: Namespace, own: Own, found: Audited, ids: Optional[Ids], digest: str) -> int:
+    """Makes a day of what was found, in the folder that is worked in; its number."""
     write_next(days.work("state"), found.window, found.carry)
-    ids = before.ids if given.service != "trace" else None
     looked = looked_at(found, own)
     write_reports(days, found, own, ids, looked, given.said)
     if given.html:

@@ -22,6 +22,7 @@ COMMANDS = {
     "parts": Command("commands.parts", "audits a trace that is too large for one process"),
     "window": Command("commands.window", "audits a log stretch by stretch, each behind what the one before left"),
     "day": Command("commands.day", "imports, audits and reports a day's logs behind those of the days before"),
+    "monitor": Command("commands.monitor", "audits a recorder's log while it grows, and tells what is found at once"),
     "forget": Command("commands.forget", "takes away what old days keep of users and of what they asked"),
     "report": Command("commands.report", "says which findings of an audit mattered, as a page, a text or rows"),
     "explain": Command("commands.explain", "says why an entry is allowed or denied, or why a trace is refused"),

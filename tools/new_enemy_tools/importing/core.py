@@ -193,7 +193,9 @@ class Core:
         named = going_on.numbered(self.taken.wanted, before.named if before else [])
         self.goes_on.left = going_on.left_by(self.goes_on.service, before, self.declared, strata, self.edges, self.taken, named, self.goes_on.chain)
         self.goes_on.left = self.goes_on.left._replace(sequence=self.last_number, missing=self.missing)
-        return {one.revision: one.at for one in named}
+        times = {one.revision: one.at for one in named}
+        self.taken.named = times
+        return times
 
     # Order and commits
 

@@ -12,6 +12,10 @@ class Declared:
         self.rules, self.edges, self.refusals = Rules(), edges, refusals
         self.head: list[str] = []
         self.changes: dict[int, list[Declaration]] = {}
+        self.take(events)
+
+    def take(self, events: list[Event]) -> None:
+        """Takes rules behind those before."""
         for event in events:
             for name, relations in event.namespaces.items():
                 self._declare(event, name, relations)

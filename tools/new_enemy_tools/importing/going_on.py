@@ -20,6 +20,7 @@ from new_enemy_tools.importing.refusals import Refusals
 from new_enemy_tools.importing.spool import Facts, Lines
 from new_enemy_tools.importing.strata import Edges, Reason
 from new_enemy_tools.importing.taken import Taken
+from new_enemy_tools.rules import places
 from new_enemy_tools.texts import Tuple, Userset, parse_tuple
 from new_enemy_tools.windowing.replacing import touched_by
 from new_enemy_tools.windowing.state import State
@@ -145,7 +146,27 @@ def new_rules(left: Left, lines: Lines, refusals: Refusals) -> list[Event]:
         if event.revision is None and not any(_are_in(event, known) for known in (first, current)):
             refusals.refuse(event.file, event.line, "the rules are others than at the end of the day before; "
                             "the log has to say from which revision on")
-    return [event for event in lines.rules if event.revision is not None]
+    new = [event for event in lines.rules if event.revision is not None]
+    known = {(name, relation) for name, relations in current.items() for relation in relations}
+    refuse_new_tuplesets(new, known, {pair for _, namespaces in left.rules for pair in tuplesets_in(
+        {name: [rewrite for _, rewrite in relations] for name, relations in namespaces.items()})}, refusals)
+    return new
+
+
+def tuplesets_in(namespaces: dict[str, list[dict[str, Any]]]) -> set[Name]:
+    """The relations from whose tuples some rewrites go on."""
+    return {(name, place.names[0]) for name, rewrites in namespaces.items() for rewrite in rewrites for place in places(rewrite)
+            if place.form == "tuple_to"}
+
+
+def refuse_new_tuplesets(events: list[Event], known: set[Name], tuplesets: set[Name], refusals: Refusals) -> None:
+    """Refuses rules that go on from a relation of earlier rules from which none of these did: the trace has its tuples in a form that says
+    nothing of that, and right replies would be called wrong."""
+    for event in events:
+        read = tuplesets_in({name: [one.rewrite for one in relations] for name, relations in event.namespaces.items()})
+        for name, relation in sorted((read & known) - tuplesets):
+            refusals.refuse(event.file, event.line, "a rule goes on from the tuples of %s#%s, as none did before, and those so far stand in the "
+                            "trace without what it reads: import all of the log at once, or begin a new log" % (name, relation))
 
 
 def _are_in(event: Event, known: dict[str, dict[str, Any]]) -> bool:

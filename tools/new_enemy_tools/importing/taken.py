@@ -3,7 +3,7 @@
 What a line of the trace needs is kept in a spool. Of many checks that stand together what they name is taken once.
 """
 import marshal
-from typing import Any, Iterable, Optional, Sequence, Union
+from typing import Any, Iterable, Mapping, Optional, Sequence, Union
 
 from new_enemy_tools.edges import Name
 from new_enemy_tools.ids import Ids
@@ -33,6 +33,8 @@ class Taken:
         self.twice: set[Version] = set()
         # the revisions that are named, each with how many lines of the trace it takes
         self.wanted: dict[int, int] = {}
+        # those that the lines before were given timestamps of, where an import goes on
+        self.named: Mapping[int, int] = {}
         self.states = States()
         self.items = Spool()
         self.has_gap = False
@@ -291,7 +293,7 @@ class Taken:
             return None if token == NEWEST else token
         before = self.issued.get((goal[0], goal[1], version or ""))
         issued = before[0][4] if before else None
-        return max(snapshot, issued) if issued in self.wanted and issued is not None else snapshot
+        return max(snapshot, issued) if issued is not None and (issued in self.wanted or issued in self.named) else snapshot
 
     def timestamps(self) -> dict[int, int]:
         """The last timestamp of each revision: dense, and as many for a commit as it has lines."""

@@ -6,7 +6,7 @@ import asyncio
 import json
 import socket
 from collections import Counter
-from typing import Any, Callable, Iterator, NamedTuple, Optional
+from typing import Any, Callable, Iterator, Mapping, NamedTuple, Optional
 
 # A keeper that has said nothing for so many seconds does not record.
 SILENT = 5.0
@@ -87,17 +87,20 @@ def _quoted(text: str) -> str:
     return text.replace("\\", "\\\\").replace('"', '\\"').replace("\n", "\\n")
 
 
-def _family(name: str, kind: str, told: str, samples: dict[str, float], label: str = "") -> Iterator[str]:
-    name = "new_enemy_recorder_" + name
+def family(name: str, kind: str, told: str, samples: Mapping[Any, float], *labels: str) -> Iterator[str]:
+    """The lines of a family of numbers; where there are several labels, a key has a text for each."""
     yield "# HELP %s %s\n# TYPE %s %s\n" % (name, told, name, kind)
     for key, value in sorted(samples.items()):
-        yield "%s%s %s\n" % (name, '{%s="%s"}' % (label, _quoted(key)) if label else "", format(value, ".15g"))
+        named = zip(labels, (key,) if isinstance(key, str) else key)
+        shown = ",".join('%s="%s"' % (label, _quoted(one)) for label, one in named)
+        yield "%s%s %s\n" % (name, "{%s}" % shown if shown else "", format(value, ".15g"))
 
 
 def exposition(reader: StatusReader, seen: Seen, now: float) -> str:
     """All numbers, as Prometheus reads them."""
     status = reader.status
-    families = [("requests_total", "counter", "Calls that are recorded and had an answer.", dict(seen.answered), "call"),
+    families: list[tuple[str, str, str, Mapping[str, float], str]] = [
+                ("requests_total", "counter", "Calls that are recorded and had an answer.", dict(seen.answered), "call"),
                 ("connections", "gauge", "Clients that are connected.", {"": seen.connections}, ""),
                 ("connections_refused_total", "counter", "Connections that were refused for want of files.", {"": seen.refused}, ""),
                 ("keeper_starts_total", "counter", "How often the keeper of the log was started.", {"": seen.starts}, ""),
@@ -109,14 +112,16 @@ def exposition(reader: StatusReader, seen: Seen, now: float) -> str:
         if status.lag is not None:
             families.append(("feed_lag_seconds", "gauge", "Since when the service has not told of its changes.",
                              {"": status.lag + max(0.0, now - reader.at)}, ""))
-    return "".join(line for family in families for line in _family(*family))  # type: ignore[arg-type]
+    return "".join(line for name, kind, told, samples, label in families
+                   for line in family("new_enemy_recorder_" + name, kind, told, samples, *filter(None, [label])))
 
 
 class MetricsServer:
-    """Answers GET of /health and /metrics."""
+    """Answers GET of /health and /metrics. `words` are said where it is well, and where it is not."""
 
-    def __init__(self, is_recording: Callable[[], bool], numbers: Callable[[], str]):
-        self.is_recording, self.numbers = is_recording, numbers
+    def __init__(self, is_well: Callable[[], bool], numbers: Callable[[], str],
+                 words: tuple[str, str] = ("recording", "not recording; requests pass")):
+        self.is_well, self.numbers, self.words = is_well, numbers, words
         self.server: Any = None
 
     async def serve(self, host: str, port: int) -> None:
@@ -143,7 +148,7 @@ class MetricsServer:
         elif path == "/metrics":
             status, body = "200 OK", self.numbers()
         else:
-            is_good = self.is_recording()
-            status, body = ("200 OK", "recording\n") if is_good else ("503 Service Unavailable", "not recording; requests pass\n")
+            is_well = self.is_well()
+            status, body = "200 OK" if is_well else "503 Service Unavailable", self.words[not is_well] + "\n"
         head = "HTTP/1.1 %s\r\nContent-Type: %s\r\nContent-Length: %d\r\nConnection: close\r\n\r\n" % (status, TYPE, len(body.encode()))
         return (head + ("" if method == "HEAD" else body)).encode()

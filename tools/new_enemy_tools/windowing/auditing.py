@@ -92,15 +92,20 @@ class LinesFeeder:
             self._write(piece)
         while (lines := self._waiting.get()) is not None:
             self._write(lines)
+            if self._waiting.empty():
+                # Who waits for an answer is not to wait for more lines.
+                self._write(b"", True)
         try:
             self._pipe.close()
         except OSError as fault:
             self._fault = self._fault or fault
 
-    def _write(self, lines: bytes) -> None:
+    def _write(self, lines: bytes, is_all: bool = False) -> None:
         if self._fault is None:
             try:
                 self._pipe.write(lines)
+                if is_all:
+                    self._pipe.flush()
             except OSError as fault:
                 self._fault = fault
 

@@ -25,7 +25,9 @@ DAY = re.compile("day[0-9]{6,}")
 PIECE = 1 << 20
 # What a day goes on from; the last two days have it. Of joined logs JOIN says what the days so far have of each.
 JOIN = "joined"
-GOING_ON = ("state", "left", "ids.jsonl", JOIN)
+# Of a day that a monitor kept, what its next run goes on from.
+MONITORED = "monitored.json"
+GOING_ON = ("state", "left", "ids.jsonl", JOIN, MONITORED)
 # The folder of a joined log while it is imported.
 JOINED_LOG = "joined_log"
 TRACES = ("trace.zst", "trace.gz", "lines.json")

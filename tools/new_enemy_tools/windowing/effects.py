@@ -62,9 +62,12 @@ def _lines(carried: list[Row], kinds: str, own: list[Row]) -> list[Numbered]:
 def looked_at(found: Audited, own: Own) -> Looked:
     """Of the entries that are told with a window: its own and those that were held over, but for those that are held over now."""
     looked = looked_in(b"\n".join([row.raw for row in found.carried if row.kind == "h"]))
-    with own.open() as file:
-        for block in Blocks(file):
-            looked = looked.plus(looked_in(block))
+    if found.counts is not None:
+        looked = looked.plus(found.counts.looked)
+    else:
+        with own.open() as file:
+            for block in Blocks(file):
+                looked = looked.plus(looked_in(block))
     return looked.plus(looked_in(b"\n".join([row.raw for row in found.carry.rows if row.kind == "h"])), -1)
 
 

@@ -5,7 +5,8 @@ from functools import partial
 from typing import Callable, NamedTuple, Optional
 
 from new_enemy_tools import limits
-from new_enemy_tools.coverage import NO_LINES, Coverage, coverage_of, lines_in, marks_in
+from new_enemy_tools.coverage import NO_LINES, Coverage, Lines, coverage_of, lines_in, marks_in
+from new_enemy_tools.looked import Looked
 from new_enemy_tools.parting.blocks import Blocks
 from new_enemy_tools.parting.merging import Answer
 from new_enemy_tools.trace_lines import is_imported
@@ -30,21 +31,30 @@ class Refused(Exception):
         self.answer = answer
 
 
+class OwnCounts(NamedTuple):
+    """What the own lines of a window say of themselves, where these were counted as they came."""
+
+    lines: Lines
+    looked: Looked
+
+
 class Audited(NamedTuple):
     told: Told
     window: Window
     carry: Carry
     carried: list[Row]
+    counts: Optional[OwnCounts] = None
 
     def covered(self, own: Own, said: Optional[Coverage] = None) -> "Audited":
         """With the sum of what was looked at: of the window's own lines, as their import says or said, and of entries that waited."""
-        lines = NO_LINES
+        lines = NO_LINES if self.counts is None else self.counts.lines
         marks: list[Coverage] = []
         with own.open() as file:
             is_ours = is_imported(file.readline(limits.LINE_BYTES + 1))
-        with own.open() as file:
-            for block in Blocks(file):
-                lines, marks = lines.plus(lines_in(block)), marks + marks_in(block)
+        if self.counts is None:
+            with own.open() as file:
+                for block in Blocks(file):
+                    lines, marks = lines.plus(lines_in(block)), marks + marks_in(block)
         if own.start and marks:
             # The sum of the whole log says nothing of these lines alone; what it left out counts here again.
             marks = [marks[-1]._replace(checks=lines.checks)]

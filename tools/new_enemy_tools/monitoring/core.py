@@ -1,0 +1,255 @@
+"""The monitor as a pure machine: what it reads, hears and is answered goes in, with the time, and what is to be done
+comes out.
+
+Of what it gives out `Keep` has to be on the disk before a `Send` behind it is sent, so that a monitor which is killed
+tells nothing twice that was kept, and loses nothing. A run that begins anew is given the lines of the log since the
+run's beginning, and the rows that were kept.
+"""
+import json
+from collections import Counter
+from typing import Iterable, Iterator, NamedTuple, Optional, Union
+
+from new_enemy_tools.coverage import Coverage
+from new_enemy_tools.monitoring.alerts import Alert, Known, Row, Stories, line_of
+from new_enemy_tools.monitoring.delivery import Delivery, Send
+from new_enemy_tools.monitoring.holding import Holding
+from new_enemy_tools.monitoring.run import Run
+from new_enemy_tools.monitoring.stream import Chunk, NewStrata
+from new_enemy_tools.telling import Telling
+
+
+class Settings(NamedTuple):
+    receivers: tuple[str, ...]
+    effects: frozenset[str] = frozenset(("wrong", "changed", "undecided"))
+    # how often at most a story that goes on is told again, in seconds
+    again: float = 600.0
+    # the lag in seconds, and the share of checks that were not looked at whole, in percent, beyond which there is an
+    # alert
+    most_lag: float = 60.0
+    most_loss: float = 1.0
+    # so long a check of an unknown version is held
+    hold: float = 31.0
+    day_bytes: int = 1 << 28
+
+
+class Feed(NamedTuple):
+    """Lines of the trace, for the program and for the run's file."""
+
+    data: bytes
+
+
+class Keep(NamedTuple):
+    """A row that has to be on the disk."""
+
+    row: Row
+
+
+class EndRun(NamedTuple):
+    """The run's lines are all given out. Whoever hears it ends the run, keeps it, and begins the next."""
+
+    why: str
+
+
+class BeginAnew(NamedTuple):
+    """The run has to end before a line, by its file and number, which it has taken already: so it is begun anew, up
+    to there."""
+
+    stop: tuple[str, int]
+
+
+Out = Union[Feed, Keep, Send, EndRun, BeginAnew]
+
+
+class Left(NamedTuple):
+    """What a run leaves to the next beside the import and the state: its stories, and findings on entries that the
+    next run has too."""
+
+    stories: dict[str, Known]
+    held: list[tuple[str, str]]
+
+
+class Core:
+    def __init__(self, settings: Settings, rows: Iterable[Row]):
+        self.settings = settings
+        self.delivery = Delivery(settings.receivers)
+        # of the run, and of the next alert
+        self.number, self.next = 0, 1
+        # findings by kind and effect, in all; and in the runs that have ended
+        self.counts: Counter[tuple[str, str]] = Counter()
+        self.ended: Counter[tuple[str, str]] = Counter()
+        self.alerts: Counter[str] = Counter()
+        self.gaps = 0
+        # bounds that are passed now
+        self.passed: dict[str, bool] = {"lag": False, "loss": False}
+        # why the monitor before this one stopped, until this one has come to the end of the log
+        self.stopped_by: Optional[str] = None
+        # of the runs by their numbers the stories that were told
+        self._told: dict[int, dict[str, Known]] = {}
+        self._read(rows)
+
+    def _read(self, rows: Iterable[Row]) -> None:
+        answered: set[tuple[int, str]] = set()
+        alerts: list[Row] = []
+        for row in rows:
+            if "answered" in row:
+                answered.add((row["answered"], row["receiver"]))
+            elif "alert" in row:
+                alerts.append(row)
+            self.next = max(self.next, row.get("next", 0), row.get("alert", 0) + 1)
+            self._note(row)
+        for row in alerts:
+            for receiver in row["to"]:
+                if (row["alert"], receiver) not in answered:
+                    self.delivery.put(Send(receiver, row["alert"], line_of(row["text"])))
+
+    def _note(self, row: Row) -> None:
+        """What a kept row says of stories and bounds."""
+        self.passed.update(row.get("passed", {}))
+        self.stopped_by = row.get("stopped_by", self.stopped_by)
+        if "alert" not in row:
+            return
+        text, told = row["text"], self._told.setdefault(row["run"], {})
+        if row.get("story"):
+            is_first = text["kind"] == "finding"
+            told[row["story"]] = Known(row["alert"] if is_first else text["first"],
+                                       text["id"] if is_first else text["first_id"], 0, text["count"])
+        elif text["kind"] == "stopped":
+            self.stopped_by = text.get("why")
+        elif text["kind"] in self.passed:
+            self.passed[text["kind"]] = text["state"] == "passed"
+
+    def begin(self, run: Run, number: int, left: Left, holding: Holding, now: float) -> None:
+        """Begins a run; or begins it anew, after a monitor that was killed in it."""
+        self.run, self.number, self.holding, self.counts = run, number, holding, Counter(self.ended)
+        self._told = {number: self._told.get(number, {})}
+        self.stories = Stories(self.settings.effects, left.stories, self._told[number], now)
+        self._held = set(left.held)
+
+    # What comes in
+
+    def read(self, chunk: Chunk, now: float) -> None:
+        self.holding.put(chunk, now)
+
+    @property
+    def has_room(self) -> bool:
+        """Whether more of the log may be read."""
+        return self.holding.has_room
+
+    def move(self, now: float) -> Iterator[Out]:
+        """Takes what can be taken of the lines that were read."""
+        ready = self.holding.ready(self.run.stream.issues, self.run.stream.last_revision(), now)
+        for chunk in ready.chunks:
+            try:
+                text = self.run.take(chunk)
+            except NewStrata:
+                yield BeginAnew((chunk.file, chunk.first))
+                return
+            if text:
+                yield Feed(text)
+        if ready.is_over and self.run.bytes:
+            yield EndRun("relations need other strata" if self.holding.stop is not None else "the day is over")
+        elif self.run.bytes >= self.settings.day_bytes and ready.chunks:
+            yield EndRun("the run is full")
+
+    def said(self, line: str, now: float) -> None:
+        self.run.said(line, now)
+
+    def tell(self, now: float, is_end: bool = False) -> Iterator[Out]:
+        """The alerts of what was found."""
+        telling = self.run.told(now, is_end)
+        if telling is not None:
+            yield from self._taken(self._new(telling), now)
+        yield from self._put(self.stories.again(self.next, self.settings.again, now, is_end))
+
+    def _taken(self, telling: Telling, now: float) -> Iterator[Out]:
+        for told in telling.told:
+            self.counts[told.finding.finding, told.effect.word] += 1
+        yield from self._put(self.stories.take(self.run, telling, self.next, self.number, now))
+
+    def _new(self, telling: Telling) -> Telling:
+        """Without findings on entries that were held over, which the run before has told."""
+        if not self._held:
+            return telling
+        return telling._replace(told=[one for one in telling.told
+                                      if (one.entry.source or "", one.finding.finding) not in self._held])
+
+    def answered(self, receiver: str, number: int, fault: Optional[str], now: float) -> Iterator[Out]:
+        if self.delivery.answered(receiver, number, fault, now):
+            yield Keep({"answered": number, "receiver": receiver})
+
+    def due(self, now: float) -> Iterator[Out]:
+        yield from self.delivery.due(now)
+
+    def look(self, wall: int) -> Iterator[Out]:
+        """Looks whether a bound is passed. `wall` is the time in nanoseconds. A run that begins anew is looked at
+        when it has come to the end of the log, or has not for as long as replies may wait."""
+        if self.stopped_by is not None:
+            self.stopped_by = None
+            yield from self._stop("ended", "the monitor audits again", None)
+        lag, coverage = self.lag(wall), self.coverage()
+        yield from self._bound("lag", lag, self.settings.most_lag,
+                               "a reply of %.1f seconds ago is not audited yet" % lag)
+        loss = 0.0 if coverage.is_empty or coverage.is_whole else coverage._replace(open=0).percent
+        yield from self._bound("loss", loss, self.settings.most_loss,
+                               "%s; that is %.2f percent that was not looked at whole" % (
+            coverage.said_counts, loss))
+
+    def _bound(self, name: str, value: float, most: float, said: str) -> Iterator[Out]:
+        """An alert where a bound is passed, and one when the value is at half of it again."""
+        is_passed = self.passed[name]
+        if value > most and not is_passed or is_passed and value <= most / 2:
+            self.passed[name] = not is_passed
+            state = "ended" if is_passed else "passed"
+            how = "is within its bound again" if is_passed else "is above %g" % most
+            yield from self._put([Alert(self.next, None, {
+                "alert": self.next, "id": "%s-%d" % (name, self.next), "kind": name, "state": state,
+                "value": round(value, 3), "bound": most, "said": "%s %s: %s" % (name, how, said)})])
+
+    def stopped(self, why: str) -> Iterator[Out]:
+        """An alert that the monitor can't go on; once, however often it is begun again."""
+        if why != self.stopped_by:
+            self.stopped_by = why
+            yield from self._stop("passed", "the monitor stopped, and nothing is audited: %s" % why, why)
+
+    def _stop(self, state: str, said: str, why: Optional[str]) -> Iterator[Out]:
+        text = {"alert": self.next, "id": "stopped-%d" % self.next, "kind": "stopped", "state": state, "said": said}
+        yield from self._put([Alert(self.next, None, text if why is None else {**text, "why": why})])
+
+    def _put(self, alerts: list[Alert]) -> Iterator[Out]:
+        for alert in alerts:
+            self.next = max(self.next, alert.number + 1)
+            self.alerts[alert.text["kind"]] += 1
+            row: Row = {"alert": alert.number, "run": self.number, "story": alert.story,
+                        "to": list(self.settings.receivers), "text": alert.text}
+            self._note(row)
+            yield Keep(row)
+            for receiver in self.settings.receivers:
+                self.delivery.put(Send(receiver, alert.number, line_of(alert.text)))
+
+    def leave(self) -> Left:
+        """What the next run knows of this one, when all of it is told."""
+        self.ended = Counter(self.counts)
+        return Left(self.stories.leave(), self.run.held())
+
+    # What is known
+
+    def lag(self, wall: int) -> float:
+        """For how many seconds the oldest reply has waited that was read, and is not settled."""
+        times = [time for time in (self.run.oldest, self.holding.oldest) if time is not None]
+        return max(0.0, (wall - min(times)) / 1e9) if times else 0.0
+
+    def coverage(self) -> Coverage:
+        return self.run.coverage()
+
+    def kept_rows(self) -> Iterator[Row]:
+        """What a journal still needs at the beginning of a run, which knows the stories itself: alerts that some
+        receiver has not got."""
+        waiting: dict[int, list[str]] = {}
+        texts: dict[int, str] = {}
+        for receiver, sends in self.delivery.waiting.items():
+            for send in sends:
+                waiting.setdefault(send.number, []).append(receiver)
+                texts[send.number] = send.text
+        for number in sorted(waiting):
+            yield {"alert": number, "run": 0, "story": None, "to": waiting[number], "text": json.loads(texts[number])}
+        yield {"next": self.next, "passed": self.passed, "stopped_by": self.stopped_by}

@@ -1,0 +1,66 @@
+"""The program that follows a trace, as a process: lines in, and what it says as messages."""
+import subprocess
+import tempfile
+from queue import SimpleQueue
+from threading import Thread
+from typing import Any, BinaryIO, NamedTuple, cast
+
+from new_enemy_tools.faults import DeviceFault
+from new_enemy_tools.windowing.auditing import LinesFeeder
+
+
+class Follower:
+    def __init__(self, program: str, inbox: "SimpleQueue[Any]"):
+        self.program, self.inbox = program, inbox
+        self._error = tempfile.TemporaryFile()
+        try:
+            self._process = subprocess.Popen([program, "follow", "--heartbeat"], stdin=subprocess.PIPE,
+                                             stdout=subprocess.PIPE, stderr=self._error)
+        except OSError as fault:
+            raise DeviceFault("cannot run %s: %s" % (program, fault.strerror)) from None
+        assert self._process.stdin is not None
+        self._feeder = LinesFeeder([], cast(BinaryIO, self._process.stdin))
+        self._thread = Thread(target=self._read, daemon=True)
+        self._thread.start()
+
+    def _read(self) -> None:
+        assert self._process.stdout is not None
+        for line in self._process.stdout:
+            self.inbox.put(Said(self, line.decode("utf-8", "replace").rstrip("\n")))
+        self.inbox.put(Ended(self))
+
+    def feed(self, data: bytes) -> None:
+        # The program has what it can read at once; a line is never held back here.
+        self._feeder.put(data)
+
+    def end(self) -> int:
+        """Ends its input, and waits until it has said all; its status."""
+        self._feeder.end()
+        status = self._process.wait()
+        self._thread.join()
+        return status
+
+    def fault(self) -> str:
+        """Why it ended too early."""
+        status = self._process.wait()
+        self._error.seek(0)
+        said = self._error.read().decode("utf-8", "replace").strip()
+        return said or "%s ended with %d" % (self.program, status)
+
+    def stop(self) -> None:
+        self._process.kill()
+        self._process.wait()
+        self._feeder.stop()
+
+
+class Said(NamedTuple):
+    """A line that a program said."""
+
+    by: Follower
+    line: str
+
+
+class Ended(NamedTuple):
+    """A program says no more."""
+
+    by: Follower

@@ -1,0 +1,240 @@
+"""The devices round the core of a monitor: it reads the log, feeds the program, keeps rows, tells receivers, and ends
+runs."""
+import asyncio
+import os
+import signal
+import sys
+import time
+from argparse import Namespace
+from queue import Empty, SimpleQueue
+from threading import Thread
+from typing import Any, Iterable, NamedTuple, Optional
+
+from new_enemy_tools.faults import DeviceFault
+from new_enemy_tools.monitoring.core import BeginAnew, Core, EndRun, Feed, Keep, Out, Settings
+from new_enemy_tools.monitoring.faults import MonitorFault
+from new_enemy_tools.monitoring.follower import Ended, Follower, Said
+from new_enemy_tools.monitoring.holding import Holding
+from new_enemy_tools.monitoring.journal import Journal
+from new_enemy_tools.monitoring.kept import RunFile, keep, start_of
+from new_enemy_tools.monitoring.numbers import Before, exposition
+from new_enemy_tools.monitoring.receivers import Answered, Receiver, Teller
+from new_enemy_tools.monitoring.run import Run
+from new_enemy_tools.monitoring.tail import Tail
+from new_enemy_tools.recording.metrics import MetricsServer
+from new_enemy_tools.shown import tell
+from new_enemy_tools.windowing import carrying
+from new_enemy_tools.windowing.days import Days
+
+# Between two looks at the log, and at bounds, in seconds.
+POLL, LOOK = 0.02, 1.0
+# So long alerts are told when the monitor ends.
+PATIENCE = 3.0
+WORDS = ("auditing", "not auditing as it should; see /metrics")
+
+
+class Way(NamedTuple):
+    """Where a monitor works, and how."""
+
+    log: str
+    folder: str
+    options: Namespace
+    settings: Settings
+    receivers: dict[str, Receiver]
+    metrics: Optional[tuple[str, int]]
+    # whether it ends where the log does
+    is_once: bool = False
+
+
+class Machine:
+    def __init__(self, way: Way):
+        self.way = way
+        os.makedirs(way.folder, exist_ok=True)
+        self.days = Days(way.options.folder)
+        self.journal = Journal(os.path.join(way.folder, "alerts.jsonl"))
+        self.inbox: "SimpleQueue[Any]" = SimpleQueue()
+        self.core = Core(way.settings, self.journal.read())
+        self.tellers = {name: Teller(name, one, self.inbox) for name, one in way.receivers.items()}
+        self.before = Before()
+        self.is_stopping = self.is_caught_up = False
+        self.began = self.looked = time.monotonic()
+        self.shown, self.is_well = "", False
+        self.tail: Optional[Tail] = None
+        self.follower: Optional[Follower] = None
+
+    # Runs
+
+    def begin(self) -> None:
+        """Begins the first run of this monitor."""
+        self._begin(None)
+
+    def _begin(self, holding: Optional[Holding], stop: Optional[tuple[str, int]] = None) -> None:
+        """Begins a run with the lines that are held; without these anew, from where the last one that was kept has
+        ended, and up to a line."""
+        start = start_of(self.days, self.way.options)
+        number = 1 + (self.days.last or 0)
+        if holding is None:
+            self.tail = Tail(self.way.log, start.place)
+            holding = Holding(self.way.settings.hold, self.days.last is not None, stop)
+        self.file = RunFile(self.days.work("trace"), start.begun.state.head.lines)
+        self.follower = Follower(self.way.options.program, self.inbox)
+        self.is_fed = False
+        self.run = Run(start.begun, self._has_between(), self.file.line)
+        self.core.begin(self.run, number, start.left, holding, time.monotonic())
+
+    def _has_between(self) -> bool:
+        """Whether checks may have looked at any state between two; of a log that is not there yet that is not known,
+        and taken to be so."""
+        assert self.tail is not None
+        return self.tail.first_service() != "spicedb"
+
+    def _end_run(self, why: str) -> None:
+        given, run, now = self.way.options, self.run, time.monotonic()
+        assert self.tail is not None and self.follower is not None
+        carry = run.close(carrying.Keep(None, given.keep_snapshots, given.keep_versions))
+        status = self.follower.end()
+        self._hear_all()
+        if status not in (0, 1):
+            raise MonitorFault("the program refuses the trace: %s" % self.follower.fault())
+        self._do(self.core.tell(now, True))
+        self.journal.sync()
+        line = self.core.holding.lines[0] if self.core.holding.lines else None
+        place = self.tail.here() if line is None else self.tail.place_at(line.file, line.number)
+        self.before = self.before.plus(self.core)
+        number = keep(self.days, given, run, carry, status, self.core.leave(), place, self.file)
+        self.days.mark_told(number)
+        self.tail.forget(place.file)
+        tell("monitor: run %d has ended, since %s; %s" % (number, why, self.days.tell(number).splitlines()[-1]),
+             sys.stderr)
+        self.journal.replace(self.core.kept_rows())
+        self.core.holding.stop = None
+        self._begin(self.core.holding)
+
+    # What comes in
+
+    def live(self) -> None:
+        """Until it is told to stop. Raises MonitorFault where it can't go on."""
+        is_more = False
+        while not self.is_stopping:
+            self._hear(0 if is_more else POLL)
+            is_more = self._read()
+            now = time.monotonic()
+            self._do(self.core.move(now))
+            self._do(self.core.tell(now))
+            self._do(self.core.due(now))
+            self._look(now, is_more)
+            if self.way.is_once and not is_more and not self.core.holding.lines:
+                if self.run.bytes:
+                    self._end_run("the log ends")
+                return
+
+    def _read(self) -> bool:
+        """Reads more of the log; whether there may be more still."""
+        assert self.tail is not None
+        while self.core.has_room:
+            chunk = self.tail.read()
+            if chunk is None:
+                return False
+            self.core.read(chunk, time.monotonic())
+        return True
+
+    def _hear(self, seconds: float) -> None:
+        """What the program and the receivers say, for so long at most as nothing comes."""
+        try:
+            self._take(self.inbox.get(seconds > 0, seconds or None))
+        except Empty:
+            return
+        self._hear_all()
+
+    def _hear_all(self) -> None:
+        while not self.inbox.empty():
+            self._take(self.inbox.get())
+
+    def _take(self, message: Any) -> None:
+        now = time.monotonic()
+        if isinstance(message, Said):
+            # What one said that was stopped is of a run that was begun anew.
+            if message.by is self.follower:
+                self.core.said(message.line, now)
+        elif isinstance(message, Answered):
+            self._do(self.core.answered(message.receiver, message.number, message.fault, now))
+        elif isinstance(message, Ended) and message.by is self.follower and not self.run.is_closed:
+            raise MonitorFault("the program refuses the trace: %s" % message.by.fault())
+
+    # What is to be done
+
+    def _do(self, outs: Iterable[Out]) -> None:
+        ended: Optional[EndRun] = None
+        anew: Optional[BeginAnew] = None
+        for out in outs:
+            if isinstance(out, Feed):
+                assert self.follower is not None
+                self.file.add(out.data)
+                self.follower.feed(out.data if self.is_fed else self.run.front() + out.data)
+                self.is_fed = True
+            elif isinstance(out, Keep):
+                self.journal.add(out.row)
+            elif isinstance(out, EndRun):
+                ended = out
+            elif isinstance(out, BeginAnew):
+                anew = out
+            else:
+                self.journal.sync()
+                self.tellers[out.receiver].put(out)
+        if anew is not None and self.follower is not None:
+            self.follower.stop()
+            self._begin(None, anew.stop)
+        elif ended is not None:
+            self._end_run(ended.why)
+
+    def _look(self, now: float, is_more: bool) -> None:
+        self.is_caught_up |= not is_more and not self.core.holding.lines
+        if now - self.looked < LOOK:
+            return
+        self.looked, wall = now, time.time_ns()
+        if self.is_caught_up or now - self.began > self.way.settings.most_lag:
+            self._do(self.core.look(wall))
+        self.journal.sync()
+        self.shown = exposition(self.core, self.before, wall, self.is_caught_up)
+        self.is_well = self.is_caught_up and not any(self.core.passed.values())
+
+    # The end
+
+    def stop(self, fault: Optional[str]) -> None:
+        """Tells what waits for a little, and keeps the rest for the next monitor."""
+        if fault is not None:
+            self._do(self.core.stopped(fault))
+        until = time.monotonic() + PATIENCE
+        while not self.core.delivery.is_idle and (time.monotonic() < until or self._waits_for_all(fault)):
+            self._do(self.core.due(time.monotonic()))
+            try:
+                message = self.inbox.get(timeout=POLL)
+            except Empty:
+                continue
+            if isinstance(message, Answered):
+                self._take(message)
+        self.journal.close()
+        if self.follower is not None:
+            self.follower.stop()
+        self.days.end()
+        self.days.close()
+
+    def _waits_for_all(self, fault: Optional[str]) -> bool:
+        return self.way.is_once and fault is None and not self.is_stopping
+
+    def serve(self) -> None:
+        """Answers on the address of the metrics, in a thread of its own; raises DeviceFault where it can't."""
+        if self.way.metrics is None:
+            return
+        server, loop = MetricsServer(lambda: self.is_well, lambda: self.shown, WORDS), asyncio.new_event_loop()
+        try:
+            loop.run_until_complete(server.serve(*self.way.metrics))
+        except OSError as fault:
+            raise DeviceFault("cannot listen at %s:%d: %s" % (*self.way.metrics, fault.strerror)) from None
+        Thread(target=loop.run_forever, daemon=True).start()
+
+    def hear_signals(self) -> None:
+        def stop(*_: object) -> None:
+            self.is_stopping = True
+        for number in (signal.SIGTERM, signal.SIGINT):
+            signal.signal(number, stop)

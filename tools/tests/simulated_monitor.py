@@ -1,0 +1,186 @@
+"""A world for the core of a monitor: a log that grows, a program that follows, receivers that fail, a disk, and kills
+at any moment.
+
+What the program says is what the definitions say, by the tools' own reading. All is drawn by a seed.
+"""
+import copy
+import json
+from collections import Counter
+
+from new_enemy_tools.ids import Ids
+from new_enemy_tools.meaning import Settled
+from new_enemy_tools.monitoring.core import BeginAnew, Core, EndRun, Feed, Keep, Left, Settings
+from new_enemy_tools.monitoring.delivery import Send
+from new_enemy_tools.monitoring.holding import Holding
+from new_enemy_tools.monitoring.run import Begun, Run
+from new_enemy_tools.monitoring.stream import Chunk
+from new_enemy_tools.order import order_findings
+from new_enemy_tools.trace import read_trace
+from new_enemy_tools.windowing import carrying
+from new_enemy_tools.windowing.run import NOTHING
+from new_enemy_tools.windowing.state import State
+
+EARLY = ("F1", "F2", "F3", "F5", "F6")
+
+
+class Killed(Exception):
+    """The monitor is gone at this moment."""
+
+
+class Follow:
+    """What `new_enemy follow --heartbeat` says of lines, as docs/FORMATS.md has it."""
+
+    def __init__(self):
+        self.text, self.told, self.settled = b"", set(), 0
+
+    def take(self, data, is_end=False):
+        self.text += data
+        trace, found = read_trace(self.text), []
+        last = trace.commits.ats[-1] if trace.commits else -1
+        is_settled = [entry.snapshot <= last for entry in trace.entries.values()]
+        for entry in trace.entries.values():
+            listed = list(order_findings(trace, entry))
+            if Settled(trace.rules, trace.store, entry.goal, entry.snapshot).holds() != entry.reply:
+                listed.append(("F10 wrong reply", None))
+            for finding, related in listed:
+                if entry.snapshot <= last or is_end or finding.split()[0] in EARLY or finding.startswith("F4"):
+                    found.append("line %d: %s%s" % (entry.line, finding, ", see line %d" % related if related else ""))
+        new = [line for line in found if line not in self.told]
+        self.told.update(new)
+        if is_end:
+            return new + ["entries %d" % len(trace.entries), "findings %d" % len(self.told),
+                          "verdict %s" % ("dirty" if self.told else "clean")]
+        if sum(is_settled) > self.settled:
+            self.settled = sum(is_settled)
+            unsettled = [line for line, one in zip(trace.entries, is_settled) if not one]
+            through = unsettled[0] - 1 if unsettled else self.text.count(b"\n")
+            new.append("through line %d: %d entries, %d findings, %d open" % (
+                through, len([line for line in trace.entries if line <= through]), len(self.told), len(unsettled)))
+        return new
+
+
+class Disk:
+    """What is there when a monitor begins: rows, and of each run that was kept what the next one goes on from."""
+
+    def __init__(self):
+        self.rows = []
+        self.runs = [(Begun(None, NOTHING, Ids()), Left({}, []), 0)]
+        self.counts, self.entries = Counter(), 0
+
+
+class Receiver:
+    def __init__(self, random, share):
+        self.random, self.share, self.got = random, share, []
+
+    def take(self, send):
+        """What it answers; it may have the alert although it says that it has not."""
+        is_down = self.random.random() < self.share
+        if not is_down or self.random.random() < 0.5:
+            self.got.append(json.loads(send.text))
+        return "it is down" if is_down else None
+
+
+class Life:
+    """One life of a monitor, over the lines of a log, until it has read all or is killed."""
+
+    def __init__(self, lines, disk, receivers, random, kills, has_between, settings):
+        self.lines, self.disk, self.receivers, self.random, self.kills = lines, disk, receivers, random, kills
+        self.has_between, self.now = has_between, 0.0
+        self.core = Core(settings, disk.rows)
+        self.begin(None)
+
+    def begin(self, holding, stop=None):
+        begun, left, at = self.disk.runs[-1]
+        self.own, self.follow, self.feeds = [], Follow(), False
+        self.run = Run(Begun(begun.left, begun.state, copy.deepcopy(begun.ids)), self.has_between,
+                       lambda line: self.own[line - 1 - begun.state.head.lines])
+        if holding is None:
+            holding, self.at = Holding(self.core.settings.hold, len(self.disk.runs) > 1, stop), at
+        self.core.begin(self.run, len(self.disk.runs), left, holding, self.now)
+
+    def step(self):
+        """At any moment it may be killed."""
+        if self.random.random() < self.kills:
+            raise Killed
+
+    def do(self, outs):
+        for out in outs:
+            self.step()
+            if isinstance(out, Feed):
+                front = b"" if self.feeds else self.run.front()
+                self.feeds = True
+                self.own += out.data.split(b"\n")[:-1]
+                self.hear(self.follow.take(front + out.data))
+            elif isinstance(out, Keep):
+                self.disk.rows.append(json.loads(json.dumps(out.row)))
+            elif isinstance(out, Send):
+                answer = self.receivers[out.receiver].take(out)
+                self.step()
+                self.do(self.core.answered(out.receiver, out.number, answer, self.now))
+            elif isinstance(out, EndRun):
+                self.end()
+            elif isinstance(out, BeginAnew):
+                self.begin(None, out.stop)
+
+    def hear(self, lines):
+        for line in lines:
+            self.step()
+            self.core.said(line, self.now)
+        self.do(self.core.tell(self.now))
+
+    def end(self):
+        carry = self.run.close(carrying.Keep(0))
+        for line in self.follow.take(b"", True):
+            self.core.said(line, self.now)
+        self.do(self.core.tell(self.now, True))
+        counts = self.core.counts - self.core.ended
+        left, at = self.core.leave(), self.at - len(self.core.holding.lines)
+        begun = Begun(self.run.stream.leave(), State(carry.head, carry.rows, None), self.run.begun.ids)
+        self.step()
+        self.disk.runs.append((begun, json_left(left), at))
+        self.disk.counts.update(counts)
+        self.disk.entries += self.run.entries
+        self.step()
+        self.disk.rows[:] = list(self.core.kept_rows())
+        self.step()
+        self.core.holding.stop = None
+        self.begin(self.core.holding)
+
+    def live(self):
+        while self.at < len(self.lines) or self.core.holding.lines or not self.core.delivery.is_idle:
+            some = self.lines[self.at:self.at + self.random.randint(1, 6)]
+            if some:
+                self.core.read(Chunk("log", self.at + 1, b"".join(some)), self.now)
+                self.at += len(some)
+            self.now += 0.01 if self.at < len(self.lines) else 100.0
+            self.do(self.core.move(self.now))
+            self.do(self.core.tell(self.now))
+            self.do(self.core.due(self.now))
+        if self.run.bytes:
+            self.end()
+        while not self.core.delivery.is_idle:
+            self.now += 100.0
+            self.do(self.core.due(self.now))
+
+
+def json_left(left):
+    """As the disk has it."""
+    read = json.loads(json.dumps({"stories": {key: list(one) for key, one in left.stories.items()}, "held": left.held}))
+    from new_enemy_tools.monitoring.alerts import Known
+    return Left({key: Known(*one) for key, one in read["stories"].items()},
+                [(source, finding) for source, finding in read["held"]])
+
+
+def told_by(lines, random, kills, has_between, lives=200):
+    """The alerts that each receiver got, and what was counted, of a monitor that is begun again when it
+    is killed; and how often it was."""
+    disk, settings = Disk(), Settings(("one", "two"), again=float("inf"), hold=0.0,
+                                      effects=frozenset(("wrong", "changed", "undecided", "possible", "none")))
+    receivers = {"one": Receiver(random, 0.3 if kills else 0.0), "two": Receiver(random, 0.0)}
+    for life in range(lives + 1):
+        try:
+            Life(lines, disk, receivers, random, kills if life < lives else 0.0, has_between, settings).live()
+            return {name: one.got for name, one in receivers.items()}, disk, life
+        except Killed:
+            pass
+    raise AssertionError("it lives for ever")

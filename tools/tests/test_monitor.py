@@ -1,0 +1,538 @@
+"""`ne monitor` beside a recorder in front of a stand-in of OpenFGA, and over logs that grow: what it tells, also when
+it is killed at any moment.
+
+KILLS in the environment says how often it is killed.
+"""
+import hashlib
+import hmac
+import json
+import os
+import re
+import shutil
+import signal
+import socket
+import subprocess
+import threading
+import time
+import unittest
+import urllib.error
+import urllib.request
+from http.server import BaseHTTPRequestHandler, HTTPServer
+from random import Random
+
+from new_enemy_tools.commands.monitor import given_of
+from new_enemy_tools.monitoring.receivers import Syslog
+from tests.ports import free_port
+from tests.recorded import Client, Recorded
+from tests.support import EXAMPLES, NE, TOP
+from tests.test_core import check, content, rel, write
+from tests.test_going_on import RULES, events_of
+from tests.test_recording_openfga import MODEL
+from tests.test_recording_openfga import Loaded as OpenFgaLoaded
+from tests.test_recording_spicedb import Loaded as SpiceDbLoaded
+
+PROGRAM = os.path.abspath(os.environ["NEW_ENEMY"])
+KILLS = int(os.environ.get("KILLS", "20"))
+UNIT = "new-enemy-monitor@.service"
+SECRET = "0123456789abcdef"
+BASE = write(0, base=True)
+PLACE = {"event": "place", "revision": 0}
+
+
+def compact(events):
+    return "".join(json.dumps(event, separators=(",", ":")) + "\n" for event in events).encode()
+
+
+def files_of(events, counts, service="openfga"):
+    """The files of a recorder's log, of which each but the last has so many events; all are closed."""
+    files, before, events = [], None, list(events)
+    for number, count in enumerate([*counts, len(events)], 1):
+        some, events = events[:count], events[count:]
+        data = compact([{"event": "log", "number": number, "before": before, "service": service}, *some])
+        before = hashlib.sha256(data).hexdigest()
+        files.append(data + compact([{"event": "closed", "count": data.count(b"\n"), "sha256": before}]))
+    return files
+
+
+def timed(events, day="2026-11-26"):
+    return [{**event, "time": "%sT10:%02d:%02dZ" % (day, place // 60, place % 60)} for place,
+            event in enumerate(events)]
+
+
+class Monitoring(Recorded):
+    """Monitors as processes, over logs that recorders write or that are put there."""
+
+    def monitor(self, *words, log="log", out="out", said="monitor.err", told="told"):
+        """A monitor as a process; what it tells goes behind what earlier ones told."""
+        files = [open(self.path(name), "a", encoding="utf-8") for name in (told, said)]
+        one = self.start(NE, "monitor", "--program", PROGRAM, "--hold", "0", *words, log, out, stdout=files[0],
+                         stderr=files[1])
+        for file in files:
+            file.close()
+        return one
+
+    def ends(self, one, status=0):
+        self.assertEqual(one.wait(120), status, self.get("monitor.err"))
+
+    def stop(self, one):
+        one.send_signal(signal.SIGTERM)
+        self.ends(one)
+
+    def told(self, name="told"):
+        # The last line of one that was killed may be there by half.
+        return [json.loads(line) for line in self.get(name).split("\n")[:-1]] if os.path.exists(self.path(name)) else []
+
+    def days_told(self, folder):
+        """The findings of all days with their effects, each by where its check stands in the log."""
+        rows = []
+        for day in sorted(name for name in os.listdir(self.path(folder)) if name.startswith("day")):
+            rows += self.rows(os.path.join(folder, day, "report.jsonl"))[1:]
+        return {(row["from"], row["finding"], row["effect"], row.get("outcome")) for row in rows}
+
+    def day(self):
+        run = self.run_tool("day", "--program", PROGRAM, "--jobs", "1", "byday", "events", *self.files())
+        self.assertIn(run.returncode, (0, 1, 6), run.stderr)
+        return self.days_told("byday")
+
+    def assert_as_the_day(self):
+        """What the runs of the monitor and its alerts tell of the log that is there is what `ne day` tells."""
+        day, told = self.day(), self.told()
+        self.assertEqual(self.days_told("out/days"), day)
+        self.assertEqual(len({row["id"] for row in told}), len(told))
+        mattered = {one for one in day if one[2] in ("wrong", "changed", "undecided")}
+        self.assertTrue(mattered)
+        found = [row for row in told if row["kind"] == "finding"]
+        self.assertLessEqual({(row["from"], row["finding"], row["effect"], row.get("outcome")) for row in found},
+                             mattered)
+        self.assertEqual({row["goal"] for row in found}, self.goals_of(mattered))
+
+    def goals_of(self, found):
+        """The questions of some findings of the days."""
+        places = {place for place, *_ in found}
+        rows = [row for name in os.listdir(self.path("byday")) if name.startswith("day")
+                for row in self.rows("byday/%s/report.jsonl" % name)[1:]]
+        return {row["goal"] for row in rows if row["from"] in places
+                and row["effect"] in ("wrong", "changed", "undecided")}
+
+    def put_log(self, files, folder="log"):
+        os.makedirs(self.path(folder), exist_ok=True)
+        for number, data in enumerate(files, 1):
+            self.put(os.path.join(folder, "%06d.jsonl" % number), data)
+
+
+class BesideOpenFga(Monitoring, OpenFgaLoaded):
+    def test_it_tells_what_the_day_tells(self):
+        self.start_service(MODEL, "0.3", "planted")
+        self.prepare()
+        recorder = self.start_recorder()
+        monitor = self.monitor()
+        self.run_clients(4, 60, self.work)
+        self.wait_for(lambda: self.told(), lambda: self.get("monitor.err"))
+        self.end(recorder)
+        self.stop(monitor)
+        self.ends(self.monitor("--once"))
+        self.assert_as_the_day()
+
+
+class BesideSpiceDb(Monitoring, SpiceDbLoaded):
+    def compare(self, *words):
+        self.start_service("0.1", "planted", *words)
+        client = Client(self.service_port)
+        self.prepare(client)
+        client.close()
+        recorder = self.start_recorder("--hold", "600")
+        monitor = self.monitor()
+        # The changes stand still for twenty turns of twenty-five.
+        self.run_clients(4, 75, self.work)
+        self.wait_for_changes()
+        self.wait_for(lambda: self.told(), lambda: self.get("monitor.err"))
+        self.end(recorder)
+        self.stop(monitor)
+        self.ends(self.monitor("--once"))
+        self.assert_as_the_day()
+
+    def test_it_tells_what_the_day_tells(self):
+        self.compare()
+
+    def test_on_postgres(self):
+        self.compare("--postgres")
+
+
+class Growing(Monitoring):
+    """Over logs that grow as this writes them."""
+
+    def test_kills(self):
+        """Whenever it is killed: what is told together is what an unbroken one tells, and each story once."""
+        random = Random("kills")
+        events = [RULES, BASE, PLACE, *timed(events_of(random, 400)), write(10 ** 6, rel("none"))]
+        self.put_log(files_of(events, [150, 100]), "whole")
+        self.ends(self.monitor("--once", log="whole", out="unbroken", told="wanted"))
+        data = [(name, self.get(os.path.join("whole", name)).encode())
+                for name in sorted(os.listdir(self.path("whole")))]
+        os.mkdir(self.path("log"))
+        pieces = [(name, text[at:at + 2_000]) for name, text in data for at in range(0, len(text), 2_000)]
+        turns = max(1, len(pieces) // KILLS)
+        for turn in range(KILLS):
+            one = self.monitor()
+            for name, piece in pieces[turn * turns:(turn + 1) * turns if turn < KILLS - 1 else len(pieces)]:
+                with open(self.path(os.path.join("log", name)), "ab") as file:
+                    file.write(piece)
+                time.sleep(random.random() * 0.1)
+            time.sleep(random.random() * 0.8)
+            one.kill()
+            one.wait()
+        self.ends(self.monitor("--once"))
+        # What was under way when it was killed may come again, with its id.
+        self.assertLessEqual(len(self.told()) - len({row["id"] for row in self.told()}), KILLS)
+        wanted, told = ({row["id"]: row for row in self.told(name)} for name in ("wanted", "told"))
+        self.assertGreater(len(wanted), 20)
+        self.assertEqual({key for key in told if "-" not in key}, {key for key in wanted if "-" not in key})
+        counts = [{row["first_id"]: row["count"] for row in rows.values() if row["kind"] == "again"}
+                  for rows in (wanted, told)]
+        self.assertEqual(*counts)
+        self.assertEqual(*({(place.partition("/")[2], *more) for place, *more in self.days_told(name)}
+                           for name in ("unbroken/days", "out/days")))
+
+    def log_of_days(self):
+        random = Random("days of a monitor")
+        first, second = (timed(events_of(random, 150), day) for day in ("2026-11-26", "2026-11-27"))
+        rise = max(event.get("revision", 0) for event in first)
+        for event in second:
+            for key in ("revision", "snapshot", "token"):
+                if key in event:
+                    event[key] += rise
+            if "version" in event:
+                event["version"] += " of day 2"
+        return [RULES, BASE, PLACE, *first, *second, write(10 ** 6, rel("none"))]
+
+    def test_runs(self):
+        """At midnight, and where the trace is long enough, a run ends; all tell together what the days of `ne day`
+        do."""
+        self.put_log(files_of(self.log_of_days(), [100]))
+        self.ends(self.monitor("--once", "--html"))
+        run = self.run_tool("day", "--program", PROGRAM, "--jobs", "1", "byday", "events", *self.files())
+        self.assertIn(run.returncode, (1, 6), run.stderr)
+        wanted = {one[:2] for one in self.days_told("byday")}
+        self.assertGreater(len(wanted), 30)
+        self.assertEqual({one[:2] for one in self.days_told("out/days")}, wanted)
+        self.assertEqual(sorted(os.listdir(self.path("out/days"))), ["day000001", "day000002", "index.html", "lock"])
+        # A check of the first day that no commit had settled is told with the second.
+        self.assertEqual({row["time"][:10] for row in self.rows("out/days/day000001/report.jsonl")[1:]}, {"2026-11-26"})
+        for name in ("mail.txt", "report.html", "summary.json", "lines.json", "told"):
+            self.assertTrue(os.path.exists(self.path("out/days/day000001/" + name)), name)
+        explained = self.run_tool("explain", "--ids", "out/days/day000002/ids.jsonl", "out/days/day000001",
+                                  str(self.rows("out/days/day000001/report.jsonl")[1]["line"]))
+        self.assertEqual((explained.returncode, explained.stderr), (0, ""))
+        os.mkdir(self.path("grown"))
+        one = self.monitor("--day-bytes", "8192", "--keep-snapshots", "100", log="grown", out="often",
+                           told="often.told")
+        for name in sorted(os.listdir(self.path("log"))):
+            for line in self.get("log/" + name).splitlines(True):
+                with open(self.path("grown/" + name), "a", encoding="utf-8") as file:
+                    file.write(line)
+                time.sleep(0.01)
+        self.stop(one)
+        self.ends(self.monitor("--once", "--day-bytes", "8192", "--keep-snapshots", "100", log="grown", out="often",
+                               told="often.told"))
+        self.assertGreater(len(os.listdir(self.path("often/days"))), 5)
+        self.assertEqual({(place.replace("grown", "log"), finding) for place, finding,
+                          *_ in self.days_told("often/days")}, wanted)
+        # `ne day` does not go on in the middle of a file.
+        run = self.run_tool("day", "--program", PROGRAM, "out/days", "events", *self.files())
+        self.assertEqual(run.returncode, 2)
+        self.assertIn("by ne monitor", run.stderr)
+
+    def test_it_goes_on_in_the_next_file(self):
+        """Where a run has ended with a file, the next one begins with the first line of the file behind it."""
+        events = [RULES, BASE, PLACE, *timed(events_of(Random("files of a monitor"), 200)), write(10 ** 6, rel("none"))]
+        files = files_of(events, [50, 70])
+        for number in range(1, 4):
+            self.put_log(files[:number])
+            self.ends(self.monitor("--once", "--keep-snapshots", "100"))
+        day = {one[:2] for one in self.day()}
+        self.assertGreater(len(day), 20)
+        self.assertEqual({one[:2] for one in self.days_told("out/days")}, day)
+        self.assertEqual(sorted(os.listdir(self.path("out/days"))), ["day000001", "day000002", "day000003", "lock"])
+
+    def test_what_is_refused(self):
+        """By name, with the line; it is told as an alert too, and once."""
+        events = [RULES, BASE, PLACE, write(2, rel()), check(2)]
+        cases = (([files_of(events, [3])[0], files_of(events, [3])[1].replace(b'"before":"', b'"before":"0')],
+                  "log/000002.jsonl:1: it goes on from another file than the one before it; give the files of one log, as "
+                  "tools/record wrote them"),
+                 ([files_of(events, [])[0].replace(b"true", b"false")],
+                  "log/000001.jsonl:7: the file was changed or cut after it was written: its last line tells of other lines "
+                  "than these; give the file as tools/record wrote it"),
+                 (files_of([*events, {"event": "check", "goal": rel(), "reply": True}], []),
+                  "log/000001.jsonl:7: `snapshot` is no whole number"),
+                 ([compact(events)], "log/000001.jsonl:1: this is no file of a recorder's log; give the folder that tools/ne "
+                  "record writes (--out)"),
+                 ([files_of(events, [])[0][:-20] + b"\nno line\n"],
+                  "log/000001.jsonl:8: the line is none that tools/record writes; give the folder as its recorder left "
+                  "it"))
+        for number, (files, text) in enumerate(cases):
+            with self.subTest(text):
+                self.put_log(files)
+                for _ in range(2):
+                    one = self.monitor("--once", out="refused%d" % number, told="refused%d.told" % number)
+                    self.ends(one, 2)
+                said = [row["said"] for row in self.told("refused%d.told" % number)]
+                self.assertEqual(said, ["the monitor stopped, and nothing is audited: " + text])
+                for name in self.files():
+                    os.remove(self.path(name))
+        self.put_log([files_of(events, [])[0]])
+        os.rename(self.path("log/000001.jsonl"), self.path("log/000002.jsonl"))
+        self.ends(self.monitor("--once", out="missing"), 2)
+        self.assertEqual([row["said"] for row in self.told()], ["the monitor stopped, and nothing is audited: file 1 of the log in "
+                                                                "log is missing, and others go on from it; give it back"])
+        self.ends(self.monitor(log="none"), 5)
+
+    def test_a_journal_that_was_altered(self):
+        """What was written by half is cut; a row that is none is refused, since an alert may be lost with it."""
+        self.put_log(files_of([RULES, BASE, PLACE, write(5, rel()), check(5, False)], []))
+        self.ends(self.monitor("--once"))
+        rows = self.get("out/alerts.jsonl")
+        self.put("out/alerts.jsonl", rows + '{"alert":9,"run":')
+        self.ends(self.monitor("--once"))
+        self.put("out/alerts.jsonl", "no row\n" + rows)
+        self.ends(self.monitor("--once"), 2)
+        self.assertIn("out/alerts.jsonl:1: this is no row that a monitor wrote", self.get("monitor.err"))
+        self.assertEqual([row["alert"] for row in self.told()], [1])
+
+    def test_two_at_once(self):
+        self.put_log([files_of([RULES, BASE, PLACE], [])[0]])
+        one = self.monitor()
+        self.wait_for(lambda: "reading log" in self.get("monitor.err"))
+        self.ends(self.monitor(said="other.err"), 2)
+        self.assertIn("another run works in out/days", self.get("other.err"))
+        self.stop(one)
+
+
+class Hook(BaseHTTPRequestHandler):
+    """A receiver that is down at first, and then answers as it is told to."""
+
+    protocol_version = "HTTP/1.1"
+
+    def do_POST(self):
+        body = self.rfile.read(int(self.headers["Content-Length"]))
+        self.server.asked += 1
+        is_down = self.server.asked <= self.server.down
+        if not is_down:
+            self.server.got.append((json.loads(body), time.time()))
+            sent = self.headers["X-New-Enemy-Time"]
+            wanted = hmac.new(SECRET.encode(), sent.encode() + b"." + body, hashlib.sha256).hexdigest()
+            self.server.are_signed.append(self.headers["X-New-Enemy-Signature"] == "sha256=" + wanted)
+        self.send_response(503 if is_down else 204)
+        self.send_header("Content-Length", "0")
+        self.end_headers()
+
+    def log_message(self, *_):
+        pass
+
+
+class Hooked(Monitoring):
+    def hook(self, down=0, port=0):
+        server = HTTPServer(("127.0.0.1", port), Hook)
+        server.asked, server.down, server.got, server.are_signed = 0, down, [], []
+        threading.Thread(target=server.serve_forever, daemon=True).start()
+        self.addCleanup(server.server_close)
+        self.addCleanup(server.shutdown)
+        return server
+
+    def log(self):
+        """A log with a new enemy, a wrong reply, and a stale reply that is harmless."""
+        doc = rel("plan", "viewer", "bob")
+        events = [RULES, BASE, PLACE, write(5, doc, rel("plan", "viewer", "alice")), write(10, remove=[doc]),
+                  content(10, "v2", goal=rel("plan", "viewer", "alice"), token=10), check(5, True, doc, version="v2"),
+                  check(10, True, doc), check(5, True, rel("plan", "viewer", "alice"), version="v2"),
+                  check(5, True, doc, version="v2")]
+        self.put_log(files_of(timed(events), []))
+
+
+class Receivers(Hooked):
+    def test_a_webhook_that_is_down(self):
+        """Nothing is lost, and all is signed."""
+        self.log()
+        self.put("secret", SECRET + "\n")
+        server = self.hook(down=3)
+        url = "http://127.0.0.1:%d/alerts?to=duty" % server.server_port
+        one = self.monitor("--webhook", url, "--secret", "secret")
+        self.wait_for(lambda: len(server.got) == 2, lambda: self.get("monitor.err"))
+        self.stop(one)
+        rows = [row for row, _ in server.got]
+        self.assertEqual([(row["kind"], row["effect"], row["title"], row.get("new_enemy")) for row in rows], [
+            ("finding", "changed", "user:bob, a new enemy, was let in: doc:plan#viewer@user:bob F2 old token", True),
+            ("finding", "wrong", "user:bob was let in: doc:plan#viewer@user:bob F10 wrong reply", None)])
+        self.assertEqual([rows[0][key] for key in ("user", "object", "relation", "version", "from", "ignored_from",
+                                                   "time", "ignored_since")], [
+            "user:bob", "doc:plan", "viewer", "v2", "log/000001.jsonl:8", "log/000001.jsonl:6",
+                                                                               "2026-11-26T10:00:06Z",
+                                                                               "2026-11-26T10:00:04Z"])
+        self.assertIn("doc:plan#viewer@user:bob was removed", [event["text"] for event in rows[0]["story"]["events"]])
+        self.assertEqual(server.are_signed, [True, True])
+        # The story that goes on is told with its count, when the run ends.
+        self.ends(self.monitor("--once", "--webhook", url, "--secret", "secret"))
+        self.assertEqual([(row["kind"], row["first"], row["count"]) for row, _ in server.got[2:]], [("again", 1, 2)])
+
+    def test_a_story_that_goes_on(self):
+        """It is told with its count, as often as --again says."""
+        doc = rel("plan", "viewer", "bob")
+        events = timed([RULES, BASE, PLACE, write(5, doc), write(10, remove=[doc]), *[check(10, True, doc)] * 4])
+        lines = files_of(events, [])[0].splitlines(True)
+        self.put_log([b"".join(lines[:7])])
+        one = self.monitor("--again", "1")
+        self.wait_for(lambda: self.told())
+        with open(self.path("log/000001.jsonl"), "ab") as file:
+            file.write(b"".join(lines[7:]))
+        self.wait_for(lambda: len(self.told()) == 2)
+        self.stop(one)
+        again = self.told()[1]
+        self.assertEqual([again[key] for key in ("kind", "first", "count", "more", "until")], ["again", 1, 4, 3, "2026-11-26T10:00:08Z"])
+
+    def test_a_webhook_that_is_not_there(self):
+        """The alerts wait on the disk, and a later monitor tells them."""
+        self.log()
+        port = free_port()
+        url = "http://127.0.0.1:%d/" % port
+        one = self.monitor("--webhook", url, "--metrics", "127.0.0.1:%d" % free_port())
+        self.wait_for(lambda: os.path.exists(self.path("out/alerts.jsonl"))
+                      and self.get("out/alerts.jsonl").count("\n") == 2)
+        self.stop(one)
+        server = self.hook(port=port)
+        one = self.monitor("--webhook", url)
+        self.wait_for(lambda: len(server.got) == 2)
+        self.stop(one)
+        self.assertEqual([row["alert"] for row, _ in server.got], [1, 2])
+
+    def test_others(self):
+        """A command, the log of the system, and standard output: each has all alerts, whatever becomes of another."""
+        self.log()
+        self.put("take", "#!/bin/sh\ncat >> taken; test -e ready || { touch ready; echo no >&2; exit 1; }\n")
+        os.chmod(self.path("take"), 0o700)
+        self.ends(self.monitor("--once", "--command", "./take", "--print"))
+        self.assertEqual([row["alert"] for row in self.told()], [1, 2, 3])
+        # The first was taken twice, since the command said that it was not.
+        self.assertEqual([json.loads(line)["alert"] for line in self.get("taken").splitlines()], [1, 1, 2, 3])
+
+    def test_the_log_of_the_system(self):
+        with socket.socket(socket.AF_UNIX, socket.SOCK_DGRAM) as end:
+            end.bind(self.path("log"))
+            self.assertIsNone(Syslog(self.path("log")).take("{}"))
+            self.assertEqual(end.recv(100), b"<26>new_enemy: {}")
+        self.assertRegex(Syslog(self.path("none")).take("{}"), "No such file")
+
+    def test_a_secret_that_is_none(self):
+        self.log()
+        self.put("secret", "short\n")
+        self.ends(self.monitor("--webhook", "http://127.0.0.1:1/", "--secret", "secret"), 2)
+        self.assertIn("fewer than 16 bytes", self.get("monitor.err"))
+
+
+class Metrics(Hooked):
+    def asked(self, port, path):
+        try:
+            with urllib.request.urlopen("http://127.0.0.1:%d%s" % (port, path), timeout=30) as answer:
+                return answer.status, answer.read().decode()
+        except urllib.error.HTTPError as fault:
+            return fault.code, fault.read().decode()
+        except OSError:
+            return 0, ""
+
+    def numbers(self, port):
+        lines = self.asked(port, "/metrics")[1].splitlines()
+        return {name.removeprefix("new_enemy_monitor_"): float(value) for name, _,
+                value in (line.rpartition(" ") for line in lines) if name[:1] != "#"}
+
+    def test_what_was_looked_at(self):
+        self.log()
+        port = free_port()
+        one = self.monitor("--metrics", "127.0.0.1:%d" % port)
+        self.wait_for(lambda: self.numbers(port).get("entries_total") == 5, lambda: str(self.numbers(port)))
+        found = self.numbers(port)
+        self.assertEqual({key: value for key, value in found.items() if key.startswith("findings_total")}, {
+            'findings_total{finding="F10",effect="wrong"}': 1, 'findings_total{finding="F2",effect="changed"}': 2,
+            'findings_total{finding="F2",effect="none"}': 1})
+        self.assertEqual([found[name] for name in ("lag_seconds", "open", "held_lines", "caught_up",
+                                                   'alerts_waiting{receiver="output"}')],
+                         [0, 0, 0, 1, 0])
+        self.assertEqual(self.asked(port, "/health"), (200, "auditing\n"))
+        self.stop(one)
+
+    def test_loss(self):
+        """What the recorder lost is counted, told as an alert, and is never well."""
+        events = [RULES, BASE, PLACE, write(5, rel()), check(5),
+                  {"event": "gap", "from": "2026-11-26T10:00:00Z", "to": "2026-11-26T10:00:01Z",
+                                                                 "reason": "it was full", "lost": 3}]
+        self.put_log(files_of(timed(events), []))
+        port = free_port()
+        one = self.monitor("--metrics", "127.0.0.1:%d" % port)
+        self.wait_for(lambda: self.told())
+        self.assertEqual([(row["kind"], row["state"], row["value"]) for row in self.told()], [("loss", "passed", 75.0)])
+        self.wait_for(lambda: self.numbers(port).get('bound_passed{bound="loss"}') == 1)
+        self.assertEqual(self.numbers(port)['lost_total{cause="it was full"}'], 3)
+        self.assertEqual(self.asked(port, "/health")[0], 503)
+        self.stop(one)
+
+    def test_lag(self):
+        """A check above all commits waits for one, and is told to wait."""
+        events = [RULES, BASE, PLACE, write(5, rel()), check(7)]
+        self.put_log([files_of(timed(events), [], "spicedb")[0].rpartition(b'{"event":"closed"')[0]])
+        one = self.monitor("--most-lag", "2", "--most-loss", "100")
+        self.wait_for(lambda: self.told())
+        self.assertEqual([(row["kind"], row["state"]) for row in self.told()], [("lag", "passed")])
+        with open(self.path("log/000001.jsonl"), "ab") as file:
+            file.write(compact([write(8, rel("2"))]))
+        self.wait_for(lambda: len(self.told()) == 2)
+        self.assertEqual([(row["kind"], row["state"]) for row in self.told()[1:]], [("lag", "ended")])
+        self.stop(one)
+
+
+class Examples(Monitoring):
+    PLACE = os.path.join(EXAMPLES, "monitor")
+
+    def text(self, name):
+        with open(os.path.join(self.PLACE, name), encoding="utf-8") as file:
+            return file.read()
+
+    def test_the_words_of_the_unit_are_those_that_the_monitor_takes(self):
+        text = self.text(UNIT)
+        started = re.search(r"ExecStart=/usr/bin/new-enemy-tools monitor (.+)", text)[1].replace("%i", "x")
+        shown = re.search(r"#   WORDS=(.+)", text)[1]
+        _, given = given_of(started.replace("$WORDS", shown).split())
+        self.assertEqual((given.log, given.out, given.webhook, given.metrics), (
+            "/var/lib/private/new-enemy/x", "/var/lib/new-enemy-monitor/x", ["https://duty.example/alerts"],
+                                                                                "127.0.0.1:8092"))
+
+    @unittest.skipUnless(shutil.which("systemd-analyze"), "there is no systemd-analyze")
+    def test_systemd_takes_the_unit(self):
+        made = self.put(UNIT.replace("@", "@x"), self.text(UNIT).replace("/usr/bin/new-enemy-tools", "/bin/true"))
+        run = subprocess.run(["systemd-analyze", "verify", made], capture_output=True, text=True, timeout=300)
+        self.assertNotIn("Unknown", run.stderr)
+
+    def test_what_the_image_needs_is_there(self):
+        copied = [word for line in self.text("Containerfile").splitlines() if line.startswith("COPY ") for word in line.split()[1:-1]]
+        self.assertEqual([os.path.exists(os.path.join(TOP, word)) for word in copied], [True] * 3)
+        started = json.loads(re.search("ENTRYPOINT (.+)", self.text("Containerfile"))[1])
+        _, given = given_of([*started[3:], "--syslog"])
+        self.assertEqual((given.log, given.out), ("/log", "/watched"))
+
+    def test_the_board_asks_for_what_there_is(self):
+        """Each number of the board is one that the monitor gives, with the labels that the board names."""
+        self.put_log([files_of([RULES, BASE, PLACE, write(5, rel()), check(5)], [])[0]])
+        port = free_port()
+        one = self.monitor("--metrics", "127.0.0.1:%d" % port)
+        self.wait_for(lambda: b"run_bytes" in self.page(port))
+        given = set(re.findall(r"# TYPE (\w+) ", self.page(port).decode()))
+        self.stop(one)
+        asked = [target["expr"] for panel in json.loads(self.text("grafana.json"))["panels"]
+                 for target in panel["targets"]]
+        named = {name for expr in asked for name in re.findall(r"new_enemy_monitor_\w+", expr)}
+        self.assertGreater(len(named), 10)
+        self.assertLessEqual(named, given)
+
+    def page(self, port):
+        try:
+            with urllib.request.urlopen("http://127.0.0.1:%d/metrics" % port, timeout=30) as answer:
+                return answer.read()
+        except OSError:
+            return b""

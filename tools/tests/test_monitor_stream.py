@@ -1,0 +1,190 @@
+"""The import of a monitor, a few lines at a time, writes what one import of all lines writes, but for timestamps; and
+what it holds back."""
+import json
+import os
+import subprocess
+from random import Random
+from unittest import mock
+
+from new_enemy_tools.ids import Ids
+from new_enemy_tools.monitoring import holding as holding_of
+from new_enemy_tools.monitoring.faults import MonitorFault
+from new_enemy_tools.monitoring.holding import STATE_WAIT, WRITE_WAIT, Holding
+from new_enemy_tools.monitoring.run import Begun, Run
+from new_enemy_tools.monitoring.stream import Chunk
+from new_enemy_tools.windowing.run import NOTHING
+from tests.test_core import CoreCase, check, content, rel, write
+from tests.test_going_on import NEWLY_READ, READ, RULES, UNREAD, between, events_of
+
+BASE = write(0, base=True)
+PLACE = {"event": "place", "revision": 0}
+
+
+def lines_of(events):
+    return [json.dumps(event, separators=(",", ":")).encode() + b"\n" for event in events]
+
+
+class Streamed(CoreCase):
+    def stream(self, events, random, has_between=True, is_held=True):
+        """The trace of events that come a few at a time."""
+        lines, at, now, text = lines_of(events), 0, 0.0, b""
+        run, holding = Run(Begun(None, NOTHING, Ids()), has_between,
+                           lambda line: b""), Holding(1e6 if is_held else 0.0, False)
+        while at < len(lines) or holding.lines:
+            count = random.randint(1, 5)
+            some = lines[at:at + count]
+            if some:
+                holding.put(Chunk("log", at + 1, b"".join(some)), now)
+                at += len(some)
+            now += WRITE_WAIT * random.random() if at < len(lines) else 1e7
+            for chunk in holding.ready(run.stream.issues, run.stream.last_revision(), now).chunks:
+                text += run.take(chunk)
+        return text
+
+    def report(self, trace):
+        run = subprocess.run([os.environ["NEW_ENEMY"], "audit", "/dev/stdin", "--make"], input=trace,
+                             capture_output=True, timeout=300)
+        self.assertIn(run.returncode, (0, 1), run.stderr)
+        return run.stdout.decode()
+
+    def compare(self, events, random, has_between):
+        for name in ("trace.jsonl", "ids.jsonl"):
+            if os.path.exists(self.path(name)):
+                os.remove(self.path(name))
+        self.put("log", events)
+        self.imported("events", "log")
+        with open(self.path("trace.jsonl"), "rb") as file:
+            whole = self.report(file.read())
+        self.assertEqual(self.report(self.stream([*events[:2], PLACE, *events[2:]], random, has_between)), whole)
+        return whole
+
+    def test_random_events(self):
+        found = ""
+        for number in range(30):
+            random = Random("stream %d" % number)
+            found += self.compare([RULES, BASE, *events_of(random, 60)], random, number % 2 == 0)
+        for finding in ("F1", "F2", "F3", "F4", "F5", "F6", "F10"):
+            self.assertIn(finding, found)
+
+    def test_checks_that_asked_for_the_newest_state(self):
+        """They demand that of their version too, whenever that was issued."""
+        doc = rel("1", "viewer", "anne")
+        log = [RULES, BASE, write(5, doc), write(10, remove=[doc]), content(10, "v2", goal=doc, token=10),
+               check(5, True, doc, version="v2", newest=True)]
+        for number in range(5):
+            self.assertIn("F1 stale", self.compare(log, Random("newest %d" % number), False))
+        found = ""
+        for number in range(20):
+            random = Random("stream newest %d" % number)
+            log = events_of(random, 60)
+            for event in log:
+                if event["event"] == "check" and "version" in event:
+                    event.pop("token", None)
+                    event["newest"] = True
+            found += self.compare([RULES, BASE, *log], random, number % 2 == 0)
+        self.assertIn("F1", found)
+
+    def test_checks_between_two_states(self):
+        for number in range(20):
+            random = Random("stream between %d" % number)
+            self.compare([RULES, BASE, *events_of(random, 60, True)], random, True)
+
+    def test_gaps_that_are_told_later(self):
+        """A check of a version that nobody issued waits for a line that may say why; what was issued in a gap is not
+        said to be unknown."""
+        found, parts = "", 0
+        for number in range(20):
+            random = Random("stream gap %d" % number)
+            log = [{**event, "time": "2026-11-26T10:00:%02dZ" % place} for place,
+                   event in enumerate(events_of(random, 58))]
+            last = max(event.get("revision", 0) for event in log)
+            for _ in range(3):
+                place = random.randrange(len(log))
+                named = {**check(0, False, rel("1", "viewer", "none")), "version": "lost %d" % random.randrange(9),
+                         "time": log[place]["time"]}
+                log.insert(place, named)
+            if number % 3:
+                place = random.randrange(20, len(log))
+                since = log[random.randrange(place)]["time"]
+                log.insert(place, {"event": "gap", "from": since, "to": log[place]["time"], "reason": "it was full",
+                                   "lost": 1})
+            found += self.compare([RULES, BASE, *log, write(last + 1)], random, number % 2 == 0)
+            parts += self.get("trace.jsonl").count('"part"')
+        self.assertIn("F6", found)
+        self.assertGreater(parts, 10)
+
+    def test_rules_that_go_on_from_tuples_of_before(self):
+        """They are refused by name, since a right reply would be called wrong."""
+        log = [UNREAD, BASE, PLACE, write(1, rel("2"), rel("1", "parent", "2", "doc")), check(1, goal=rel("2")), READ, check(5, goal=rel("1", "reader"))]
+        refused = 0
+        for number in range(5):
+            try:
+                trace = self.stream(log, Random("tuplesets %d" % number))
+                # All came together.
+                self.assertIn("verdict clean", self.report(trace))
+            except MonitorFault as fault:
+                self.assertEqual(str(fault), "log:6: " + NEWLY_READ)
+                refused += 1
+        self.assertGreater(refused, 0)
+
+
+class Held(CoreCase):
+    """What can be taken of lines, one by one."""
+
+    def ready(self, holding, events, now, issues=lambda *_: False, first=1):
+        holding.put(Chunk("log", first, b"".join(lines_of(events))), now)
+        return self.taken(holding, now, issues)
+
+    def taken(self, holding, now, issues=lambda *_: False):
+        return [json.loads(line)["event"] for chunk in holding.ready(issues, -1, now).chunks
+                for line in chunk.data.splitlines()]
+
+    def test_the_base_state(self):
+        holding = Holding(30.0, False)
+        self.assertEqual(self.ready(holding, [RULES, BASE, BASE], 0.0), [])
+        self.assertEqual(self.ready(holding, [PLACE], 100.0), ["rules", "write", "write", "place"])
+
+    def test_the_last_write(self):
+        """Until another line comes, or for a moment."""
+        holding = Holding(30.0, True)
+        self.assertEqual(self.ready(holding, [check(0), write(1, rel())], 0.0), ["check"])
+        self.assertEqual(self.ready(holding, [write(1, rel("2"))], 0.1), [])
+        self.assertEqual(self.ready(holding, [check(1)], 0.2), ["write", "write", "check"])
+        self.assertEqual(self.ready(holding, [write(2, rel())], 0.3), [])
+        self.assertEqual(self.taken(holding, 0.3 + WRITE_WAIT), ["write"])
+
+    def test_states_to_come(self):
+        """A check, and all behind it, until the log has come to the states that it may have looked at; or for some
+        seconds."""
+        holding = Holding(30.0, True)
+        self.assertEqual(self.ready(holding, [write(1), between(check(0), 1, 2, True), check(1)], 0.0), ["write"])
+        self.assertEqual(self.ready(holding, [write(2, rel()), check(2)], 1.0), ["check", "check", "write", "check"])
+        self.assertEqual(self.ready(holding, [between(check(0), 2, 9, True)], 2.0), [])
+        self.assertEqual(self.taken(holding, 2.0 + STATE_WAIT), ["check"])
+
+    def test_versions_that_nobody_issued(self):
+        holding, gap = Holding(30.0, True), {"event": "gap", "to": "2026-11-26T10:00:00Z", "reason": "it was full"}
+        named = {**check(0, False), "version": "v"}
+        self.assertEqual(self.ready(holding, [check(0), named, check(0)], 0.0), ["check"])
+        self.assertEqual(self.ready(holding, [gap], 9.0), ["check", "check", "gap"])
+        self.assertEqual(self.ready(holding, [named, check(0)], 10.0, lambda *_: True), ["check", "check"])
+        self.assertEqual(self.ready(holding, [content(0, "v", token=0), named], 11.0), ["content", "check"])
+        self.assertEqual(self.ready(holding, [named | {"version": "w"}], 12.0), [])
+        self.assertEqual(self.taken(holding, 41.9), [])
+        self.assertEqual(self.taken(holding, 42.0), ["check"])
+
+    def test_a_gap_comes_with_what_it_explains(self):
+        holding, gap = Holding(30.0, True), {"event": "gap", "to": "2026-11-26T10:00:00Z", "reason": "it was full"}
+        with mock.patch.object(holding_of, "LINES", 1):
+            self.assertEqual(self.ready(holding, [{**check(0, False), "version": "v"}, check(0), gap, check(0)], 0.0),
+                             ["check", "check", "gap"])
+            self.assertEqual(self.taken(holding, 0.0), ["check"])
+
+    def test_days(self):
+        """The lines of a day come before its end, also where both came together."""
+        holding = Holding(30.0, True)
+        days = [check(0, time="2026-11-%02dT00:00:00Z" % day) for day in (26, 26, 27, 28, 28)]
+        holding.put(Chunk("log", 1, b"".join(lines_of(days))), 0.0)
+        found = [holding.ready(lambda *_: False, -1, 0.0) for _ in range(4)]
+        self.assertEqual([([chunk.first for chunk in one.chunks], one.is_over) for one in found],
+                         [([1], True), ([3], True), ([4], False), ([], False)])
