@@ -318,7 +318,8 @@ class Marks(Case):
             "kind|goal|snapshot|reply|zookie|version|part|again|coverage|strata|ids|steps"))
         for path in glob.glob(os.path.join(TOOLS, "new_enemy_tools", "**", "*.py"), recursive=True):
             name = os.path.relpath(path, os.path.join(TOOLS, "new_enemy_tools"))
-            if name.startswith(("recording", "importing")) or name in ("trace_lines.py", "windowing/replacing.py", "parting/placing.py", "pieces.py"):
+            if name.startswith(("recording", "importing")) or name in ("trace_lines.py", "windowing/replacing.py", "parting/placing.py", "pieces.py",
+                                                                       "monitoring/holding.py"):
                 continue
             with open(path, encoding="utf-8") as file:
                 odd += ["%s:%d" % (name, number) for number, line in enumerate(file, 1) if key.search(line)]

@@ -1,4 +1,4 @@
-use Rattle.std.proofs.Common.{◌≡◌, ◌∙◌, ◌+◌, ◌≤◌, ℕ, Bool, List, [], ◌∷◌, ◌++◌, true, false, Result, None, Ok, append_assoc, arith, refl, sym, ap, subst, append-nil}
+use Rattle.std.proofs.Common.{◌≡◌, ◌∙◌, ◌+◌, ◌≤◌, ℕ, Bool, List, [], ◌∷◌, ◌++◌, true, false, Result, None, Ok, Err, append_assoc, arith, refl, sym, ap, subst, append-nil}
 use Rattle.std.proofs.lemmas.Bool.{true≢false}
 use Rattle.std.proofs.lemmas.List.{append_cancel_left}
 use Rattle.trace_lines.specs.TraceReads.{IsTraceSoFar}
@@ -37,8 +37,8 @@ loop-follower-init g c =
         first.0,
         subst (λ (used : List ℕ). IsRunSoFar used start start c.new-follower.result) (sym first.1)
             (run_first c.new-follower.result start c.new-follower.ensures.told c.new-follower.ensures.followed),
-        subst (λ (used : List ℕ). IsIndexSoFar used c.usersets.result) (sym first.1)
-            (index_first c.new-log.result c.usersets.result c.new-log.ensures c.usersets.ensures),
+        subst (λ (used : List ℕ). IsIndexSoFar used c.usersets-usersets.result) (sym first.1)
+            (index_first c.new-log.result c.usersets-usersets.result c.new-log.ensures c.usersets-usersets.ensures),
       );
       next = subst (λ (t : TraceValue). next_line t ≤ c.in_ok-lines.lines.number) (sym c.new-log.ensures)
           (omega (arith, made.1));
@@ -48,12 +48,15 @@ loop-follower-init g c =
       held = behind_at_rest (writer g.W.Sink.taken g.W.Sink.flushes g.W.Sink.failures g.W.Sink.idle g.W.Write.contents c.args.out.now);
     }
 
+err_apart : {E : Type 0} (e : E) (b : Bool) → ◌≡◌ {A = Result Bool E} (Err e) (Ok b) → ⊥
+err_apart e b is = cc
+
 pub returns-in_err-take_line-clause-followed : goal.returns-in_err-take_line-clause-followed
 returns-in_err-take_line-clause-followed g c =
     let run = c.loop-follower.invariant.run in
     let known = c.take_line.ensures.known in
     handed_on (Followed _ _) _ c.from_residual-in_err-take_line.ensures.1
-    (refused _ _ _ (c.in_err-take_line.ensures.read (λ no. cc) c.args.trace.now run.0) (
+    (refused _ _ _ (c.in_err-take_line.ensures.read (λ no. err_apart _ true no) c.args.trace.now run.0) (
       run.0.used ++ (c.loop-follower.lines.lines ++ known.0),
       came_since g.A.Source.given g.A.Source.ends g.A.Source.failures g.A.Read.remaining c.args.trace.now c.loop-follower.trace
           c.take_line.new.reader c.loop-follower.log c.loop-follower.lines run.0 known,

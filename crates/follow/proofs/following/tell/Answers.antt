@@ -1,4 +1,6 @@
-use Rattle.std.proofs.Common.{◌≡◌, ◌∙◌, ℕ, List, sym, subst}
+use Rattle.std.proofs.Common.{◌≡◌, ◌∙◌, ℕ, List, Result, Ok, Err, sym, subst}
+use Rattle.std.specs.Prelude.{OnOk}
+use Rattle.userset_index.specs.Growth.{IsGrowing}
 use Rattle.trace_lines.specs.Values.{TraceValue}
 use Rattle.audit.specs.Parts.{Told}
 use Rattle.audit.proofs.Answering.{told-map, told_no_memory}
@@ -18,3 +20,13 @@ returns-clause-told g c =
           (subst (TellsPiece c.trace-2.result.now c.args.line c.args.follower.now c.tell.new.self)
           (sym (says.0 ∙ c.as_str.ensures.value)) c.in_ok-text.ensures),
     )) c.tell-2.ensures
+
+given : {A E : Type 0} (r : Result A E) (P : Type 0) → P → OnOk r P
+given (Ok x) P p = p
+given (Err e) P p = tt
+
+pub returns-clause-indexed : goal.returns-clause-indexed
+returns-clause-indexed g c =
+    given c.tell-2.result (IsGrowing c.args.log.declarations c.args.log.commits c.resume-log.result.1)
+    (subst (λ (t : TraceValue). IsGrowing t.declarations t.commits c.resume-log.result.1) c.pause-paused.ensures
+    c.resume-log.ensures.usersets)

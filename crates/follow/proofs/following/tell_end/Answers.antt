@@ -1,5 +1,8 @@
-use Rattle.std.proofs.Common.{◌≡◌, ◌∙◌, ℕ, List, sym, subst}
+use Rattle.std.proofs.Common.{◌≡◌, ◌∙◌, ℕ, List, [], Option, sym, subst}
 use Rattle.trace_lines.specs.Values.{TraceValue}
+use Rattle.evidence_check.specs.Steps.{StepValue}
+use Rattle.findings.specs.Findings.{findings_of}
+use Rattle.findings.specs.Headline.{IsRightAndFresh}
 use Rattle.audit.specs.Parts.{Told}
 use Rattle.audit.proofs.Answering.{told-map, told_no_memory}
 use Rattle.audit.proofs.KindLemmas.{handed_on}
@@ -18,3 +21,8 @@ returns-clause-told g c =
           (sym (says.0 ∙ c.as_str.ensures.value)) c.in_ok-text.ensures.text),
       says.1 ∙ c.verdict.ensures,
     )) c.tell.ensures
+
+pub returns-clause-right : goal.returns-clause-right
+returns-clause-right g c =
+    subst (λ (t : TraceValue). (evidence : List (Option (List StepValue))) → findings_of t evidence ≡ [] → IsRightAndFresh t)
+    (c.trace.ensures ∙ c.pause-paused.ensures) c.right_and_fresh_without_findings.ensures
