@@ -1,11 +1,15 @@
 use Rattle.std.proofs.Common.{◌≡◌, ◌∙◌, ◌+◌, ◌≤◌, ℕ, Bool, List, [], ◌∷◌, ◌++◌, true, false, Result, None, Ok, Err, append_assoc, arith, refl, sym, ap, subst, append-nil}
+use Rattle.std.specs.Prelude.{IfErr}
 use Rattle.std.proofs.lemmas.Bool.{true≢false}
 use Rattle.std.proofs.lemmas.List.{append_cancel_left}
 use Rattle.trace_lines.specs.TraceReads.{IsTraceSoFar}
 use Rattle.trace_lines.specs.Traces.{trace_of}
 use Rattle.trace_lines.specs.Values.{TraceValue, next_line}
 use Rattle.audit.specs.Devices.{reader, reads, writer}
+use Rattle.audit.specs.Kinds.{IsOneOf}
 use Rattle.audit.specs.Kinds as kind
+use Rattle.audit.specs.declared.plain.Verdict.{Verdict}
+use Rattle.audit.specs.declared.plain.AuditFault.{AuditFault}
 use Rattle.audit.specs.declared.plain.AuditFault.TheVariants as faults
 use Rattle.audit.proofs.KindLemmas.{handed_on, kinds-more}
 use Rattle.audit.proofs.Readers.{behind_at_rest, few_at_rest, next_at_rest}
@@ -292,3 +296,16 @@ pub tell_end-requires-clause-indexed : goal.tell_end-requires-clause-indexed
 tell_end-requires-clause-indexed g c =
     subst (λ (t : TraceValue). IsGrowing t.declarations t.commits c.tell-2.new.usersets) (sym c.in_ok-log-2.ensures.told.text.1.0)
     c.in_ok-log-2.ensures.indexed
+
+pub returns-in_err-take_line-clause-kinds : goal.returns-in_err-take_line-clause-kinds
+returns-in_err-take_line-clause-kinds g c =
+    handed_on (λ (r : Result Verdict AuditFault). IfErr r (IsOneOf (kind.trace ∷ kind.write ∷ kind.memory ∷ []))) _
+    c.from_residual-in_err-take_line.ensures.1 (kinds-more {V = Verdict} (kind.trace ∷ kind.memory ∷ [])
+    (kind.trace ∷ kind.write ∷ kind.memory ∷ []) refl (Err _)
+    (c.in_err-take_line.ensures.read (λ no. err_apart _ true no) c.args.trace.now c.loop-follower.invariant.run.0).kinds)
+
+pub returns-in_err-log-clause-kinds : goal.returns-in_err-log-clause-kinds
+returns-in_err-log-clause-kinds g c =
+    handed_on (λ (r : Result Verdict AuditFault). IfErr r (IsOneOf (kind.trace ∷ kind.write ∷ kind.memory ∷ []))) _
+    c.from_residual-in_err-log.ensures.1 (kinds-more {V = Verdict} (kind.write ∷ kind.memory ∷ [])
+    (kind.trace ∷ kind.write ∷ kind.memory ∷ []) refl (Err _) c.in_err-log.ensures.told.kinds)
