@@ -92,7 +92,7 @@ class Names(Case):
         for names in DOCUMENTS:
             for word in words_of(read(*names)):
                 path = word.split()[0].removeprefix("./")
-                if path.split("/")[0] in os.listdir(TOP) and "/out/" not in path and path not in WRITTEN:
+                if path.split("/")[0] in os.listdir(TOP) and "/out/" not in f"/{path}" and path not in WRITTEN:
                     with self.subTest(document=names[-1], path=path):
                         self.assertTrue(os.path.exists(os.path.join(TOP, path)))
 
