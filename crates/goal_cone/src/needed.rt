@@ -2,6 +2,7 @@
 
 use crate::fault::ConeFault;
 use crate::nodes::{Link, Node, Rule, State};
+use crate::premises::told;
 use crate::search::Search;
 use rewrites::Rewrite;
 use std::alloc::{AllocError, Global};
@@ -43,15 +44,18 @@ impl<'s, 't> Search<'s, 't> {
     ///
     /// Refusals: OutOfMemory.
     pub fn settle(&mut self, goal: SetRef<'s>) -> Result<Option<Vec<Settled>>, AllocError> {
-        match self.settle_set(goal) {
-            Ok(Some(number)) => self.settled_for(number),
-            Ok(None) | Err(ConeFault::Outgrown) => Ok(None),
+        match self.settled_for(goal) {
+            Ok(settled) => Ok(settled),
+            Err(ConeFault::Outgrown) => Ok(None),
             Err(ConeFault::OutOfMemory) => Err(AllocError),
         }
     }
 
-    /// What was settled of that on which a node leans.
-    fn settled_for(&mut self, goal: usize) -> Result<Option<Vec<Settled>>, AllocError> {
+    /// What was settled of that on which a goal leans.
+    fn settled_for(&mut self, goal: SetRef<'s>) -> Result<Option<Vec<Settled>>, ConeFault> {
+        let Some(goal) = self.settle_set(goal)? else {
+            return Ok(None);
+        };
         let needed = self.needed(goal)?;
         let mut settled = Vec::new(self.alloc);
         let mut failed = Vec::new(self.alloc);
@@ -69,8 +73,9 @@ impl<'s, 't> Search<'s, 't> {
                 failed = Vec::new(self.alloc);
             }
             moment = node.moment;
-            let Ok(fact) = Fact::of(self.alloc, node.set.set, self.user) else {
-                return Ok(None);
+            let fact = match Fact::of(self.alloc, node.set.set, self.user) {
+                Ok(fact) => fact,
+                Err(fault) => return Err(told(fault)),
             };
             if node.state == State::Holds {
                 settled.push(Settled::Holds(fact))?;
@@ -172,8 +177,8 @@ impl<'s, 't> Search<'s, 't> {
         Ok(first)
     }
 
-    /// By the groups on which its rule leans: of one that is open on what opened it, and of one that is shut on all that
-    /// is read so.
+    /// By the groups on which its rule leans: of one that is open on what opened it, and of one that is shut on all
+    /// that is read so.
     fn lean_on_groups(
         &self,
         node: Node<'s>,

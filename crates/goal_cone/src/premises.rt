@@ -43,7 +43,7 @@ struct ReadFact<'a> {
 }
 
 /// A fact that has no text is in no record.
-fn told(fault: TupleFault) -> ConeFault
+pub(crate) fn told(fault: TupleFault) -> ConeFault
     ensures { result ≡ ConeFault.Outgrown → is_memory fault ≡ false }
 {
     match fault {

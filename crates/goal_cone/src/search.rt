@@ -6,8 +6,8 @@
 //! looked at, what was asked for fails. What an exclusion subtracts is settled by a run of its own, as soon as its base
 //! holds. No answer rests on this: who is given what was settled judges that.
 //!
-//! What is long, is long once: a node is read once, each link is told once, and asked once in a run. A later run may ask
-//! again what an earlier one left; once that is more than was read, none leaves anything. A rule of many places is
+//! What is long, is long once: a node is read once, each link is told once, and asked once in a run. A later run may
+//! ask again what an earlier one left; once that is more than was read, none leaves anything. A rule of many places is
 //! walked over once for each way in which its groups open. For a goal a search takes so many steps at most
 //! ([`MOST_STEPS`]), and for the facts of a cone as many as the bounds of that allow.
 
