@@ -36,6 +36,11 @@ class Simulated(Case):
         for seed in range(100):
             self.assertEqual(run_crowd(seed, models=True)[1].faults(), [], "seed %d" % seed)
 
+    def test_a_write_that_made_one_of_two_changes(self):
+        """A tuple is added twice, and which of the two a write made that has its answer is not known."""
+        _, verdict = run_crowd(1164414)
+        self.assertEqual(verdict.faults(), [])
+
     def assert_finds(self, fault, **values):
         """Some seed shows the fault."""
         for seed in range(1000):

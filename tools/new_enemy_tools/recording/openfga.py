@@ -108,6 +108,16 @@ class Taint(NamedTuple):
     until: int = 0
 
 
+class Unsure(NamedTuple):
+    """A write that has its answer and made one of several changes of a tuple, it is not known which: when it was answered, the last of
+    these changes, and until when all of them had come."""
+
+    given: Relationship
+    answered: int
+    last: int
+    until: int
+
+
 class Model(NamedTuple):
     """A model and the revision from which on it is in force; one that can't be read has no id."""
 
@@ -136,6 +146,7 @@ class OpenFga:
         # writes under way by their numbers, with when they were asked, and those that have an answer
         self.open: dict[int, int] = {}
         self.made: deque[Made] = deque()
+        self.unsure: deque[Unsure] = deque()
         # of the last changes where those of each key stand; and of each tuple whether it was there last
         self.recent: deque[tuple[Key, int]] = deque()
         self.shown: dict[Key, deque[int]] = {}
@@ -251,7 +262,7 @@ class OpenFga:
             self.told = message.began
             until = time_text(core.now.wall - (core.now.clock - message.began) - self.horizon)
             core.put_commit(Commit(self.places.revision, line("read", until=until), message.received, changes=0))
-        self._prove(message.began)
+        self._prove(message.began, message.received)
         self._give_up(message.received - self.hold, core)
         self._forget()
         self._put_waiting(message, began_before, core)
@@ -341,6 +352,8 @@ class OpenFga:
 
     def _forget(self) -> None:
         """Of changes that stand far back it is not remembered any more where they are."""
+        while self.unsure and self.unsure[0].until <= self.places.oldest:
+            self.unsure.popleft()
         while len(self.recent) > RECENT:
             key, _ = self.recent.popleft()
             shown = self.shown[key]
@@ -382,25 +395,38 @@ class OpenFga:
             found.append(revision)
         return found
 
-    def _prove(self, began: int) -> None:
+    def _prove(self, began: int, received: int) -> None:
         """What a reading shows that began behind the answers of writes: their changes, and which these are where there is one only."""
         kept: deque[Made] = deque()
         for made in self.made:
             if made.answered > began - self.horizon:
                 kept.append(made)
                 continue
-            made.keys = [key for key in made.keys if key is None or not self._is_proved(key, made)]
+            made.keys = [key for key in made.keys if key is None or not self._is_proved(key, made, received)]
             if made.keys:
                 kept.append(made)
         self.made = kept
 
-    def _is_proved(self, key: Key, made: Made) -> bool:
+    def _is_proved(self, key: Key, made: Made, received: int) -> bool:
         """Whether the change of a write was shown."""
         found = self._after(key, made.asked)
-        rows = [row for row in map(self.places.row, found) if row is not None and row.low < made.answered]
+        rows = [(revision, row) for revision, row in zip(found, map(self.places.row, found)) if row is not None and row.low < made.answered]
         if len(rows) == 1:
-            rows[0].low, rows[0].unit = max(rows[0].low, made.asked), made.number
+            _, row = rows[0]
+            row.low, row.unit = max(row.low, made.asked), made.number
+        elif rows:
+            self.unsure.append(Unsure(key[0], made.answered, rows[0][0], received))
         return bool(found)
+
+    def _may_be_another(self, since: int, low: int, goals: list[Relationship]) -> bool:
+        """Whether a check surely saw a write that bears on its question, and it is not known whether that made a change which the check
+        need not have seen. It looks at what was proved since the check began."""
+        for one in reversed(self.unsure):
+            if one.until <= since:
+                break
+            if one.answered <= since and one.last > low and any(self.bearing.bears(one.given, goal) for goal in goals):
+                return True
+        return False
 
     def _give_up(self, before: int, core: Core) -> None:
         """What was made before a time and is not shown yet is waited for no longer; the calls that need it are lost, and later ones that
@@ -539,6 +565,8 @@ class OpenFga:
                 return taint.why
         if window.low == window.high:
             return self._of_model(one, window)
+        if self._may_be_another(one.since, window.low, goals):
+            return UNORDERED
         if self.places.is_unsure(window, lambda row: True) and any(self.places.is_unsure(window, partial(self._bears, goal)) for goal in goals):
             return UNORDERED
         low = min(self.places.surely(window, one.since, partial(self._bears, goal)) for goal in goals)
