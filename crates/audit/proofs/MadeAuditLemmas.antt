@@ -22,7 +22,7 @@ use Rattle.findings.proofs.EachFinding.{HoldsOfTokens, each_finding}
 use Rattle.findings.proofs.ToldFindings.{by_evidence, told}
 use Rattle.audit.specs.Made.{IsMade, AreMade}
 use Rattle.audit.specs.Answers.{AuditedMade}
-use Rattle.audit.specs.MadeAudit.{AuditsMade, BreaksMade, WhateverIsMade, IsOfMaker, AreOfMaker, IsAccountedFor, MissesNoWrongReply, IsFoundMade}
+use Rattle.audit.specs.MadeAudit.{AuditsMade, BreaksMade, WhateverIsMade, IsOfMaker, AreOfMaker, IsAccountedFor, MissesNoWrongReply, SpeaksOfMade, IsFoundMade}
 use Rattle.audit.specs.Shared.{found_lines}
 use Rattle.audit.specs.declared.shared.Found.{Found}
 use Rattle.audit.specs.declared.plain.AuditFault.{AuditFault}
@@ -146,15 +146,18 @@ made_findings t found findings is each =
 
 -- ---- what a reader says
 
-module _ (trace : Reading) (t : TraceValue) (says : OfWhole trace (λ a. trace_of true a ≡ Ok t)) where
-  whatever_made : (r : Result Verdict AuditFault) (P : TraceValue → List Finding → Type 0)
-      → ((a : List ℕ) (given : List (Option (List StepValue))) → trace_of true a ≡ Ok t → AreMade t t.entries given
-      → P t (findings_of t given))
-      → OnOk r (OfWhole trace (WhateverIsMade P))
-  whatever_made (Ok v) P h =
-      of_whole-map trace (λ a. trace_of true a ≡ Ok t) (WhateverIsMade P)
-      (λ a is. (t, is, λ given made. h a given is made)) says
-  whatever_made (Err f) P h = tt
+-- what holds of a trace whatever evidence is made for it
+whatever_made : (a : List ℕ) (t : TraceValue) → trace_of true a ≡ Ok t → (P : TraceValue → List Finding → Type 0)
+    → ((given : List (Option (List StepValue))) → AreMade t t.entries given → P t (findings_of t given)) → WhateverIsMade P a
+whatever_made a t said P h = (t, said, h)
+
+pub speaks_of_made : (a : List ℕ) (t : TraceValue) → trace_of true a ≡ Ok t → SpeaksOfMade a
+speaks_of_made a t said = record {
+  wrong_replies = whatever_made a t said HasOnlyWrongRepliesNamed (λ given made. named_by_bytes a t given said);
+  entries = whatever_made a t said SpeaksOfEachEntry (λ given made. entries_by_bytes a t given said);
+  given_up = whatever_made a t said AreOfMaker (λ given made. of_maker t given made);
+  complete = whatever_made a t said MissesNoWrongReply (λ given made. misses_none a t given said made);
+}
 
 module _ (trace : Reading) (out : Writing) (t : TraceValue) (read : TraceRead trace (Ok t)) where
   pub audited_made : (given : List (Option (List StepValue))) (r : Result Verdict AuditFault)
@@ -172,18 +175,16 @@ module _ (trace : Reading) (out : Writing) (t : TraceValue) (read : TraceRead tr
         headline = λ clean.
             of_whole-map trace (λ a. trace_of true a ≡ Ok t) IsTraceRightAndFresh
             (λ a is. headline_by_bytes a t is (law given (told_clean t given out r told clean))) read.given;
-        wrong_replies =
-            whatever_made trace t read.given r HasOnlyWrongRepliesNamed
-            (λ a given is made. named_by_bytes a t given is);
-        entries = whatever_made trace t read.given r SpeaksOfEachEntry (λ a given is made. entries_by_bytes a t given is);
-        given_up = whatever_made trace t read.given r AreOfMaker (λ a given is made. of_maker t given made);
-        complete =
-            whatever_made trace t read.given r MissesNoWrongReply (λ a given is made. misses_none a t given is made);
+        made = spoken r;
       }
+    where
+      spoken : (r : Result Verdict AuditFault) → OnOk r (OfWhole trace SpeaksOfMade)
+      spoken (Ok v) = of_whole-map trace (λ a. trace_of true a ≡ Ok t) SpeaksOfMade (λ a is. speaks_of_made a t is) read.given
+      spoken (Err f) = tt
 
 -- what could not be audited, and nothing was written
 pub made_fault : (trace : Reading) (w : Writer) (e : AuditFault)
     → TellsOfTrace AuditsMade BreaksMade trace (record { before = w; after = w }) (Err e)
     → AuditedMade trace (record { before = w; after = w }) (Err e)
 made_fault trace w e tells =
-    record { of_trace = tells; headline = λ is. absurd (cc (is)); wrong_replies = tt; entries = tt; given_up = tt; complete = tt }
+    record { of_trace = tells; headline = λ is. absurd (cc (is)); made = tt }

@@ -11,14 +11,14 @@ use Rattle.trace_lines.specs.declared.cause.Cause.TheVariants as causes
 use Rattle.trace_lines.specs.declared.cause.TraceFault.{TraceFault}
 use Rattle.evidence_check.specs.declared.cause.EvidenceCause.TheVariants as evidence_causes
 use Rattle.evidence_check.specs.declared.cause.EvidenceFault.{EvidenceFault}
-use Rattle.findings.specs.EachEntry.{SpeaksOfEachEntry, TellsOfEachEntry}
+use Rattle.findings.specs.EachEntry.{TellsOfEachEntry}
 use Rattle.findings.specs.Headline.{IsTraceRightAndFresh}
-use Rattle.findings.specs.WrongReplies.{HasOnlyWrongRepliesNamed, NamesOnlyWrongReplies}
+use Rattle.findings.specs.WrongReplies.{NamesOnlyWrongReplies}
 use Rattle.audit.specs.Audit.{Audits, BreaksOffAt, RefusesTrace, RefusesEvidence, CutsEvidence}
 use Rattle.audit.specs.Audit.{BlamesOnly, BlamesNoDevice, IsNotWrite}
 use Rattle.audit.specs.Devices.{Reading, Writing, OfBytes, OfWhole, OfInput, OfBoth, GivesFew, GivesNext}
 use Rattle.audit.specs.Devices.{ReaderFailed, ReaderNeverFailed, WriterFailed, WriterNeverFailed, TookNothing, StandsBehind}
-use Rattle.audit.specs.MadeAudit.{AuditsMade, BreaksMade, WhateverIsMade, AreOfMaker, MissesNoWrongReply}
+use Rattle.audit.specs.MadeAudit.{AuditsMade, BreaksMade, SpeaksOfMade}
 use Rattle.audit.specs.declared.plain.Verdict.{Verdict}
 use Rattle.audit.specs.declared.plain.Verdict.TheVariants.{Clean}
 use Rattle.audit.specs.declared.plain.AuditFault.{AuditFault}
@@ -107,14 +107,5 @@ pub record AuditedMade (trace : Reading) (out : Writing) (result : Result Verdic
   -- line before that content check; that entries are closed, content checks latest, and issued tokens carry their
   -- snapshots; and that each check of a version saw all access changes before that version's content check.
   pub headline : result ≡ Ok Clean → OfWhole trace IsTraceRightAndFresh
-  -- whatever evidence is made, and whatever the verdict: a reply that a finding F10 calls wrong is wrong
-  pub wrong_replies : OnOk result (OfWhole trace (WhateverIsMade HasOnlyWrongRepliesNamed))
-  -- and, of each entry by itself, what is wrong with it stands on its line
-  pub entries : OnOk result (OfWhole trace (WhateverIsMade SpeaksOfEachEntry))
-  -- whatever evidence is made, and so of this report: F7 is found only on the line of an entry that is out of reach,
-  -- and F8 and F9 nowhere
-  pub given_up : OnOk result (OfWhole trace (WhateverIsMade AreOfMaker))
-  -- Whatever evidence is made, and so of this report: the reply of each entry is what the rules mean; or it is wrong,
-  -- and has an F10; or the entry is out of reach, and has an F7. So a wrong reply that has no F10 is that of an entry
-  -- out of reach, and has an F7.
-  pub complete : OnOk result (OfWhole trace (WhateverIsMade MissesNoWrongReply))
+  -- whatever the verdict: what holds of the findings whatever evidence is made, and so of this report
+  pub made : OnOk result (OfWhole trace SpeaksOfMade)

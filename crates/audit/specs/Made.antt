@@ -1,6 +1,7 @@
 -- What is made of a trace: for each entry a record of steps, or, where it is out of the maker's reach, maybe none; and
 -- the text of the records.
-use Rattle.std.specs.Prelude.{◌≡◌, ◌⊎◌, ℕ, ◌≤◌, ◌^◌, true, List, [], ◌∷◌, ◌++◌, length, Option, None, Some, Ok, ⊤}
+use Rattle.std.specs.Prelude.{◌≡◌, ◌⊎◌, ℕ, ◌≤◌, ◌^◌, true, List, [], ◌∷◌, ◌++◌, length, Option, None, Some, Ok}
+use Rattle.std.specs.List.{AllZip}
 use Rattle.trace_lines.specs.Values.{TraceValue, EntryValue}
 use Rattle.trace_lines.specs.Traces.{trace_of}
 use Rattle.evidence_check.specs.Judged.{judged}
@@ -29,9 +30,7 @@ IsMade t e None = IsOutOfReach t e
 
 -- that of each entry, in order
 abbrev pub AreMade : TraceValue → List EntryValue → List (Option (List StepValue)) → Type 0
-AreMade t [] [] = ⊤
-AreMade t (e ∷ es) (o ∷ os) = IsMade t e o × AreMade t es os
-AreMade t _ _ = ⊥
+AreMade t es given = AllZip (IsMade t) es given
 
 -- the record of the steps for the entry on a line, and a newline; nothing where there are no steps
 abbrev pub record_line : ℕ → Option (List StepValue) → List ℕ

@@ -7,7 +7,9 @@ use Rattle.evidence_check.specs.Members.{IsRight, IsWrong}
 use Rattle.evidence_check.specs.Steps.{StepValue}
 use Rattle.evidence_check.specs.declared.judged.Judged.{Judged}
 use Rattle.evidence_maker.specs.Made.{IsOutOfReach}
+use Rattle.findings.specs.EachEntry.{SpeaksOfEachEntry}
 use Rattle.findings.specs.Findings.{found_where, findings_of}
+use Rattle.findings.specs.WrongReplies.{HasOnlyWrongRepliesNamed}
 use Rattle.findings.specs.declared.finding.Finding.{Finding}
 use Rattle.findings.specs.declared.finding.What.{What}
 use Rattle.findings.specs.declared.finding.What.TheVariants.{NoEvidence, BadEvidence, Silent, WrongReply}
@@ -76,3 +78,15 @@ IsAccountedFor t findings e =
 -- so it is with each entry: a wrong reply that is not told as wrong is that of an entry out of reach, which is told
 abbrev pub MissesNoWrongReply : TraceValue → List Finding → Type 0
 MissesNoWrongReply t findings = All (IsAccountedFor t findings) t.entries
+
+-- What holds of the findings whatever evidence is made for the trace that the bytes say, and whatever the verdict.
+pub record SpeaksOfMade (a : List ℕ) : Type 0 where
+  -- a reply that a finding F10 calls wrong is wrong
+  pub wrong_replies : WhateverIsMade HasOnlyWrongRepliesNamed a
+  -- of each entry by itself, what is wrong with it stands on its line
+  pub entries : WhateverIsMade SpeaksOfEachEntry a
+  -- F7 is found only on the line of an entry that is out of reach, and F8 and F9 nowhere
+  pub given_up : WhateverIsMade AreOfMaker a
+  -- The reply of each entry is what the rules mean; or it is wrong, and has an F10; or the entry is out of reach, and has
+  -- an F7. So a wrong reply that has no F10 is that of an entry out of reach, and has an F7.
+  pub complete : WhateverIsMade MissesNoWrongReply a

@@ -1,10 +1,9 @@
 //! What an audit reads.
 
-ghost use Rattle.std.specs.Prelude.{◌≡◌, ◌≢◌, ◌+◌, ◌<◌, ◌≤◌, List, Option, Ok, true};
-ghost use Rattle.devices.specs.Given.{AreNext};
+ghost use Rattle.std.specs.Prelude.{◌+◌, ◌<◌, ◌≤◌};
 ghost use Rattle.evidence_check.specs.Judging.{AreJudged};
 ghost use Rattle.json_lines.specs.declared.reading.TheConstants.{MAX_INPUT};
-ghost use Rattle.trace_lines.specs.TraceReads.{IsTraceSoFar, trace_by};
+ghost use Rattle.trace_lines.specs.TraceReads.{TakesLine};
 ghost use Rattle.trace_lines.specs.Values.{next_line};
 ghost use Rattle.audit.specs.Devices.{reads};
 ghost use Rattle.audit.specs.Parts.{TraceRead, EvidenceRead};
@@ -60,17 +59,9 @@ pub fn take_line<R: Source>(
 ) -> Result<bool, AuditFault>
     requires next { next_line builder.old ≤ lines.old.number }
     requires room { lines.old.number + lines.old.room ≤ MAX_INPUT + 1 }
-    ensures goes { result ≡ Ok true → (first : R)
-        → IsTraceSoFar R.given R.ends R.failures R.remaining first reader.old builder.old lines.old
-        → IsTraceSoFar R.given R.ends R.failures R.remaining first reader.new builder.new lines.new }
-    ensures next { result ≡ Ok true → (lines.new.number ≡ lines.old.number + 1)
-        × (next_line builder.new ≤ lines.new.number) }
-    ensures room { result ≡ Ok true → (lines.new.number + lines.new.room ≤ MAX_INPUT + 1)
-        × (lines.new.room < lines.old.room) }
-    ensures read { result ≢ Ok true → (first : R)
-        → IsTraceSoFar R.given R.ends R.failures R.remaining first reader.old builder.old lines.old
-        → TraceRead (reads R.given R.ends R.failures R.remaining first reader.new) (trace_by builder.new result) }
-    ensures known { AreNext R.given R.ends R.remaining reader.old reader.new }
+    ensures { TakesLine R.given R.ends R.failures R.remaining
+        (λ first. TraceRead (reads R.given R.ends R.failures R.remaining first reader.new))
+        reader.old reader.new builder.old builder.new lines.old lines.new result }
 {
     match take_next(lines, reader, builder) {
         Ok(more) => Ok(more),

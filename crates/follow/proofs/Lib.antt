@@ -3,4 +3,5 @@ pub mod FollowerLemmas
 pub mod GrownLemmas
 pub mod IndexLemmas
 pub mod MadeLemmas
+pub mod OpenLemmas
 pub mod RunLemmas

@@ -33,12 +33,15 @@ use Rattle.audit.specs.Devices.{Reader, Reading, Writing, Writer, reads, OfBytes
 use Rattle.audit.specs.Kinds.{IsOneOf}
 use Rattle.audit.specs.Kinds as kind
 use Rattle.audit.specs.Made.{IsMade}
+use Rattle.audit.specs.MadeAudit.{SpeaksOfMade}
 use Rattle.audit.specs.Parts.{Told, TraceRead}
 use Rattle.audit.specs.declared.plain.Verdict.{Verdict}
 use Rattle.audit.specs.declared.plain.Verdict.TheVariants.{Clean, Dirty}
 use Rattle.audit.specs.declared.plain.AuditFault.{AuditFault}
 use Rattle.audit.specs.declared.plain.AuditFault.TheVariants as faults
 use Rattle.findings.proofs.EachEntryLemmas.{headline_by_bytes}
+use Rattle.audit.proofs.MadeAuditLemmas.{speaks_of_made}
+use Rattle.follow_laws.specs.Told.{all_told}
 use Rattle.follow_laws.specs.Begun.{Begins}
 use Rattle.monitor.specs.Standing.{IsPast}
 use Rattle.monitor.proofs.PastLemmas.{past_on}
@@ -452,8 +455,8 @@ module _ (used start taken : List ℕ) (f g : Follower) (t : TraceValue) (whole 
   pub end_clean : Clean ≡ verdict_of g.told.items
       → ((evidence : List (Option (List StepValue))) → findings_of t evidence ≡ [] → IsRightAndFresh t)
       → IsTraceRightAndFresh used
-  end_clean is law = headline_by_bytes used t said (law tells.all.0 (nothing_found tells.all.2.0 (findings_of t tells.all.0)
-      (none_told g.told.items is ∙ tells.all.2.1) tells.all.2.2))
+  end_clean is law = headline_by_bytes used t said (law tells.all.given (nothing_found (all_told t tells.all.given)
+      (findings_of t tells.all.given) (none_told g.told.items is ∙ tells.all.told) tells.all.once))
 
 -- ---- what is answered
 
@@ -486,6 +489,7 @@ pub stopped : (trace : Reading) (out : Writing) (e : AuditFault) → IsOneOf (ki
 stopped trace out e kinds fine stands held failed unfailed = record {
   follows = tt;
   headline = λ is. absurd (cc (is));
+  made = tt;
   stands = stands;
   trace_refused = λ f is. absurd (no_trace e f kinds (cc (is)));
   trace_cut = λ f is _. absurd (no_trace e f kinds (cc (is)));
@@ -532,6 +536,7 @@ pub refused : (trace : Reading) (out : Writing) (e : AuditFault) → TraceRead t
 refused trace out e read stands held kept = record {
   follows = tt;
   headline = λ is. absurd (cc (is));
+  made = tt;
   stands = stands;
   trace_refused = λ f is. read.refused f (cc (is));
   trace_cut = λ f is by. read.cut f (cc (is)) by;
@@ -600,6 +605,8 @@ module _ (trace : Reading) (one two three : Writer) (kept : WriterNeverFailed (r
         headline = λ clean. of_whole-map (λ (s : Reader). s.given) (λ (s : Reader). s.ends) trace.before trace.after
             (λ a. a ≡ came) IsTraceRightAndFresh (λ a is. subst IsTraceRightAndFresh (sym is)
             (end_clean came one.taken two.taken f g t so_far said told.text.0 says.0 (cc (clean) ∙ says.1) law)) whole;
+        made = of_whole-map (λ (s : Reader). s.given) (λ (s : Reader). s.ends) trace.before trace.after (λ a. a ≡ came)
+            SpeaksOfMade (λ a is. subst SpeaksOfMade (sym is) (speaks_of_made came t said)) whole;
         stands = tt;
         trace_refused = λ f is. absurd (cc (is));
         trace_cut = λ f is. absurd (cc (is));

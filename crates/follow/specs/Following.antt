@@ -13,6 +13,7 @@ use Rattle.audit.specs.Audit.{RefusesTrace, BlamesOnly, BlamesNoDevice, verdict_
 use Rattle.audit.specs.Devices.{Reading, Writing, OfBytes, OfWhole, OfInput, GivesFew, GivesNext}
 use Rattle.audit.specs.Devices.{ReaderFailed, ReaderNeverFailed, WriterFailed, WriterNeverFailed, StandsBehind}
 use Rattle.audit.specs.Made.{IsMade}
+use Rattle.audit.specs.MadeAudit.{SpeaksOfMade}
 use Rattle.audit.specs.declared.plain.Verdict.{Verdict}
 use Rattle.audit.specs.declared.plain.Verdict.TheVariants.{Clean}
 use Rattle.audit.specs.declared.plain.AuditFault.{AuditFault}
@@ -22,8 +23,9 @@ use Rattle.follow.specs.Pieces.{Piece, text_of, told_in}
 use Rattle.follow.specs.SoFar.{IsToldOf}
 
 -- All of the bytes say a trace, and the end of the text tells what is left behind what was told: together that is what
--- is found on it by evidence that is made, each finding once (`TellsAll`); and behind it the report's last lines, of
--- which the verdict is the last. The heartbeats among the pieces are true of the whole.
+-- is told of it line by line and at its end, by evidence that is made, and what is found on it by that, each finding once
+-- (`TellsAll`); and behind it the report's last lines, of which the verdict is the last. The heartbeats among the pieces
+-- are true of the whole.
 pub record Ends (a : List ℕ) (pieces : List Piece) (ending : List ℕ) (v : Verdict) : Type 0 where
   pub trace : TraceValue
   pub said : trace_of true a ≡ Ok trace
@@ -63,6 +65,8 @@ pub record Followed (trace : Reading) (out : Writing) (result : Result Verdict A
   pub follows : IfOk result (λ v. OfWhole trace (λ a. Follows a out.before.taken out.after.taken v))
   -- a clean verdict says of the trace what that of an audit says
   pub headline : result ≡ Ok Clean → OfWhole trace IsTraceRightAndFresh
+  -- whatever the verdict: what holds of the findings whatever evidence is made, and so of what was told
+  pub made : OnOk result (OfWhole trace SpeaksOfMade)
   -- under any fault: what went out is told of the lines that had come
   pub stands : IfErr result (λ e. OfBytes trace (λ came. WentOut came out.before.taken out.after.taken))
   -- a refusal holds of every input that begins with the bytes that came

@@ -6,11 +6,13 @@
 //! followed as `IsFollowed` (`specs/SoFar.antt`), what was written as pieces of findings and heartbeats
 //! (`specs/Pieces.antt`), and a whole run as `Followed` (`specs/Following.antt`).
 //!
-//! Callers may rely on this: what was told as the lines came, and what is told at the end, is together what is found on
-//! the trace, each finding once; a clean verdict is that of an audit. Under any fault what went out before is told of
-//! the lines that had come (`IsToldOf`), and so stands among the findings on each longer log
-//! (`follow_laws::laws::told_is_true`). A heartbeat is true of the lines that had come and of each longer log: up to its
-//! line all entries are settled, and of none of them anything is told behind it (`specs/Heartbeats.antt`).
+//! Callers may rely on this: what was told as the lines came, and what is told at the end, is in this order what
+//! each line and the end let tell, and together what is found on the trace, each finding once; a clean verdict is
+//! that of an audit, and so is all that holds of the findings whatever the verdict (`SpeaksOfMade`). Under any
+//! fault what went out before is told of the lines that had come (`IsToldOf`), and so stands among the findings on
+//! each longer log (`follow_laws::laws::told_is_true`). A heartbeat is true of the lines that had come and of each
+//! longer log: up to its line all entries are settled, and of none of them anything is told behind it
+//! (`specs/Heartbeats.antt`); how many are open is true of the lines that had come.
 //!
 //! ```text
 //! let verdict = follow(alloc, &mut trace, &mut out, true)?;

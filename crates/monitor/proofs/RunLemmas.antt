@@ -1,6 +1,7 @@
 -- What a monitor tells of a trace, from its first line to its end.
 use Rattle.std.proofs.Common.{◌≡◌, ℕ, zero, suc, ◌+◌, ◌<◌, ◌≤◌, inl, inr, max, Bool, true, false, cond, List, [], ◌∷◌, ◌++◌, length, Option, Some, None, refl, sym, ◌∙◌, ap, subst, arith, append_assoc, append-nil}
 use Rattle.std.specs.Prelude.{slice_get, is_none}
+use Rattle.std.specs.List.{AllZip}
 use Rattle.std.specs.List.Sorted.{IsStrictlyIncreasing}
 use Rattle.std.proofs.lemmas.Bool.{cases_lt, eqb-true}
 use Rattle.std.proofs.lemmas.Option.{slice_get_within}
@@ -11,13 +12,14 @@ use Rattle.evidence_check.specs.Evidences.{steps_of}
 use Rattle.evidence_check.specs.Steps.{StepValue}
 use Rattle.findings.specs.declared.finding.Finding.{Finding}
 use Rattle.follow_laws.specs.Begun.{IsOfBytes}
-use Rattle.follow_laws.specs.Told.{is_at, settling_line, told_before, told_from, told_on}
-use Rattle.follow_laws.proofs.OnceLemmas.{once_to}
+use Rattle.follow_laws.specs.Told.{is_at, left_over, settling_line, told_before, told_from, told_on}
+use Rattle.follow_laws.proofs.OnceLemmas.{once_law, own_line}
 use Rattle.monitor.specs.SoFar.{IsTold, IsUpTo}
 use Rattle.monitor.specs.Standing.{IsAtEnd, IsCommitNext, Takes, line_of}
 use Rattle.monitor.specs.Telling.{Tells, TellsLeft, told_of}
 use Rattle.monitor.specs.Whole.{TellsAll}
 use Rattle.monitor.specs.declared.monitor.Monitor.{Monitor}
+use Rattle.monitor.proofs.GrowthLemmas.{below_last}
 use Rattle.monitor.proofs.CommitLemmas.{at_itself, not_at, line_earlier, line_later, lines_rise, settles_at_event}
 use Rattle.monitor.proofs.StandingLemmas.{placed_at, silent_off}
 use Rattle.monitor.proofs.TellingLemmas.{IsSilent}
@@ -83,6 +85,14 @@ picked t test one other i (x ∷ es) (suc j) e at =
     let next : i + 1 + j ≡ i + suc j = omega arith in
     picked t test one other (i + 1) es j e at
     ∙ ap (λ (n : ℕ). cond (test (settling_line t e)) (steps_of other n) (steps_of one n)) next
+
+all_picked : (Allows : EntryValue → Option (List StepValue) → Type 0) (t : TraceValue) (test : Option ℕ → Bool)
+    (one other : List (Option (List StepValue))) (i : ℕ) (es : List EntryValue)
+    → ((j : ℕ) (e : EntryValue) → slice_get es j ≡ Some e → Allows e (steps_of (pick t test one other i es) j))
+    → AllZip Allows es (pick t test one other i es)
+all_picked Allows t test one other i [] each = tt
+all_picked Allows t test one other i (e ∷ es) each =
+    (each 0 e refl, all_picked Allows t test one other (i + 1) es (λ j x at. each (suc j) x at))
 
 module _ (t : TraceValue) (test : Option ℕ → Bool) (one other : List (Option (List StepValue))) where
   abbrev both : List (Option (List StepValue))
@@ -242,6 +252,18 @@ module _ (t : TraceValue) (placed : AreInPlace t) (rising : IsStrictlyIncreasing
     ]
   ]
 
+  -- where all was taken, that stands before the number behind the last line
+  to_last : (m : Monitor) → IsOfBytes t → IsAtEnd t m → IsUpTo t m (next_line t)
+  to_last m good ended = record {
+    entries_before = λ i e at taken. let lt = own_line t good i e at in omega (arith, lt);
+    entries_from = λ i e at left.
+        let lt = slice_get_within t.entries i e at in let all = ended.entries in absurd (omega (arith, lt, left, all));
+    commits_before = λ c inside taken.
+        let counted = placed.commits.counted in
+        let lt = below_last t.commit_lines placed.commits.lines c (omega (arith, inside, counted)) in omega (arith, lt);
+    commits_from = λ c inside left. let all = ended.commits in absurd (omega (arith, inside, left, all));
+  }
+
   module _ (Allows : TraceValue → EntryValue → Option (List StepValue) → Type 0) where
     pub told_first : (m : Monitor) → m.entries ≡ 0 → m.commits ≡ 0 → (old : List Finding) → IsTold Allows t m old old
     told_first m entries commits old = record {
@@ -307,21 +329,21 @@ module _ (t : TraceValue) (placed : AreInPlace t) (rising : IsStrictlyIncreasing
         let before : told_before t given n ≡ told_before t so_far.given k =
         quiet m k n so_far.up_to high (omega arith) given
         ∙ same_before t given so_far.given k (λ i e at s is lt. picked_one t is_none so_far.given last i e at (ap is_none is)) in
-        let end : told_from is_none t given 0 t.entries ≡ told_from is_none t last 0 t.entries =
+        let end : left_over t given ≡ left_over t last =
         same_from t is_none given last 0 t.entries (λ j e at is.
         let z : 0 + j ≡ j = omega arith in
-        ap (steps_of given) z ∙ picked_other t is_none so_far.given last j e at is ∙ sym (ap (steps_of last) z)) in (
-          given,
-          λ i e at. by_line i e at (settling_line t e) refl,
-          (
-            told_before t given n ++ told_from is_none t given 0 t.entries,
-            more ∙ ap (λ (fs : List Finding). fs ++ told_from is_none t last 0 t.entries) so_far.told
-                ∙ append_assoc old (told_before t so_far.given k) (told_from is_none t last 0 t.entries)
-                ∙ ap (λ (fs : List Finding). old ++ fs) (ap (λ (fs : List Finding). fs ++ told_from is_none t last 0 t.entries) (sym before)
-                ∙ ap (λ (fs : List Finding). told_before t given n ++ fs) (sym end)),
-            once_to n t good (omega arith) given,
-          ),
-        )
+        ap (steps_of given) z ∙ picked_other t is_none so_far.given last j e at is ∙ sym (ap (steps_of last) z)) in record {
+          given = given;
+          allowed = all_picked (Allows t) t is_none so_far.given last 0 t.entries
+              (λ i e at. by_line i e at (settling_line t e) refl);
+          told = more ∙ ap (λ (fs : List Finding). fs ++ left_over t last) so_far.told
+              ∙ append_assoc old (told_before t so_far.given k) (left_over t last)
+              ∙ ap (λ (fs : List Finding). old ++ fs)
+              (ap (λ (fs : List Finding). fs ++ left_over t last) (sym before ∙ quiet m (next_line t) n (to_last m good ended) high
+              (omega arith) given)
+              ∙ ap (λ (fs : List Finding). told_before t given (next_line t) ++ fs) (sym end));
+          once = once_law t good given;
+        }
       where
         by_line : (i : ℕ) (e : EntryValue) → slice_get t.entries i ≡ Some e → (o : Option ℕ) → settling_line t e ≡ o
             → Allows t e (steps_of (both t is_none so_far.given last) i)

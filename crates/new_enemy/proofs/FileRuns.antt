@@ -10,16 +10,16 @@ use Rattle.audit.specs.Audit.{Audits}
 use Rattle.audit.specs.Devices.{Reading, Writer, Writing, OfBoth, OfWhole, reads}
 use Rattle.audit.specs.Kinds.{IsOneOf}
 use Rattle.audit.specs.Kinds as kind
-use Rattle.audit.specs.MadeAudit.{AuditsMade, BreaksMade, MissesNoWrongReply, WhateverIsMade}
+use Rattle.audit.specs.MadeAudit.{AuditsMade, BreaksMade, SpeaksOfMade}
 use Rattle.audit.specs.declared.plain.Verdict.{Verdict}
 use Rattle.audit.specs.declared.plain.Verdict.TheVariants.{Clean, Dirty}
 use Rattle.audit.specs.declared.plain.AuditFault.{AuditFault}
 use Rattle.audit.specs.declared.plain.AuditFault.TheVariants as faults
 use Rattle.audit.proofs.KindLemmas.{kinds-more, never_answered}
-use Rattle.findings.specs.EachEntry.{SpeaksOfEachEntry, TellsOfEachEntry}
+use Rattle.findings.specs.EachEntry.{TellsOfEachEntry}
 use Rattle.findings.specs.declared.finding.Finding.{Finding}
 use Rattle.findings.specs.Headline.{IsTraceRightAndFresh}
-use Rattle.findings.specs.WrongReplies.{HasOnlyWrongRepliesNamed, NamesOnlyWrongReplies}
+use Rattle.findings.specs.WrongReplies.{NamesOnlyWrongReplies}
 use Rattle.follow.specs.Following.{Followed, Follows}
 use Rattle.new_enemy.specs.Files.{OfFiles, file_failures, IsNoTrace, IsCleanAudit, IsDirtyAudit, IsCleanAuditMade, IsDirtyAuditMade, IsCleanFollowing, IsDirtyFollowing}
 use Rattle.new_enemy.specs.Opened.{IsUnused, file_of}
@@ -102,6 +102,14 @@ module _ {F : Type 0} (left : Counted F → Option (List ℕ)) (a0 : Counted F) 
       (kinds-more (kind.trace ∷ kind.write ∷ kind.memory ∷ [])
       (kind.trace ∷ kind.write ∷ kind.memory ∷ kind.limits ∷ []) refl answer kinds) h
 
+  -- what holds of the findings whatever evidence is made
+  spoken : (answer : Result Verdict AuditFault) (v : Verdict) → answer ≡ Ok v
+      → OnOk answer (OfWhole (reads moved_by stops_of failures_of left a0 (file_of x)) SpeaksOfMade)
+      → SpeaksOfMade (moved_by (file_of x))
+  spoken answer v is holds =
+      (whole a0 (file_of x) SpeaksOfMade unused (answer_of answer v
+      (λ _. OfWhole (reads moved_by stops_of failures_of left a0 (file_of x)) SpeaksOfMade) is holds)).1
+
   module _ (answer : Result Verdict AuditFault) (st : IsStatusOf answer s)
       (h : AuditedMade (reads moved_by stops_of failures_of left a0 (file_of x)) out answer) where
     made_by : (v : Verdict) → answer ≡ Ok v
@@ -112,24 +120,13 @@ module _ {F : Type 0} (left : Counted F → Option (List ℕ)) (a0 : Counted F) 
         (λ w. OfWhole (reads moved_by stops_of failures_of left a0 (file_of x))
         (λ a. AuditsMade a out.before.taken out.after.taken w)) is h.of_trace.told)
 
-    -- what holds of the findings on any evidence that is made
-    whatever : (P : TraceValue → List Finding → Type 0) (v : Verdict) → answer ≡ Ok v
-        → OnOk answer (OfWhole (reads moved_by stops_of failures_of left a0 (file_of x)) (WhateverIsMade P))
-        → WhateverIsMade P (moved_by (file_of x))
-    whatever P v is holds =
-        (whole a0 (file_of x) (WhateverIsMade P) unused
-        (answer_of answer v
-        (λ _. OfWhole (reads moved_by stops_of failures_of left a0 (file_of x)) (WhateverIsMade P)) is holds)).1
-
     clean_made : s ≡ 0 → IsCleanAuditMade (file_of x) out.before.taken out.after.taken
     clean_made zero =
         let is : answer ≡ Ok Clean = of_clean answer s st zero in
         let all = made_by Clean is in (
           all.0,
           all.1,
-          whatever HasOnlyWrongRepliesNamed Clean is h.wrong_replies,
-          whatever SpeaksOfEachEntry Clean is h.entries,
-          whatever MissesNoWrongReply Clean is h.complete,
+          spoken answer Clean is h.made,
           (whole a0 (file_of x) IsTraceRightAndFresh unused (h.headline is)).1,
         )
 
@@ -139,9 +136,7 @@ module _ {F : Type 0} (left : Counted F → Option (List ℕ)) (a0 : Counted F) 
         let all = made_by Dirty is in (
           all.0,
           all.1,
-          whatever HasOnlyWrongRepliesNamed Dirty is h.wrong_replies,
-          whatever SpeaksOfEachEntry Dirty is h.entries,
-          whatever MissesNoWrongReply Dirty is h.complete,
+          spoken answer Dirty is h.made,
           tt,
         )
 
@@ -168,11 +163,12 @@ module _ {F : Type 0} (left : Counted F → Option (List ℕ)) (a0 : Counted F) 
     clean_following zero =
         let is : answer ≡ Ok Clean = of_clean answer s st zero in
         let all = followed_by Clean is in
-        (all.0, all.1, (whole a0 (file_of x) IsTraceRightAndFresh unused (h.headline is)).1)
+        (all.0, all.1, spoken answer Clean is h.made, (whole a0 (file_of x) IsTraceRightAndFresh unused (h.headline is)).1)
 
     dirty_following : s ≡ 1 → IsDirtyFollowing (file_of x) out.before.taken out.after.taken
     dirty_following one =
-        let all = followed_by Dirty (of_dirty answer s st one) in (all.0, all.1, tt)
+        let is : answer ≡ Ok Dirty = of_dirty answer s st one in
+        let all = followed_by Dirty is in (all.0, all.1, spoken answer Dirty is h.made, tt)
 
     -- of a trace that is followed
     pub runs_follow : IfErr answer (IsOneOf (kind.trace ∷ kind.write ∷ kind.memory ∷ []))

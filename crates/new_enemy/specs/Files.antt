@@ -4,12 +4,12 @@ use Rattle.devices.specs.Devices.{moved_by, failures_of, stops_of}
 use Rattle.devices.specs.declared.counted.Counted.{Counted}
 use Rattle.tuple_text.specs.Tuples.{TupleValue}
 use Rattle.audit.specs.Audit.{Audits}
-use Rattle.findings.specs.EachEntry.{SpeaksOfEachEntry, TellsOfEachEntry}
+use Rattle.findings.specs.EachEntry.{TellsOfEachEntry}
 use Rattle.findings.specs.Headline.{IsTraceRightAndFresh}
-use Rattle.findings.specs.WrongReplies.{HasOnlyWrongRepliesNamed, NamesOnlyWrongReplies}
+use Rattle.findings.specs.WrongReplies.{NamesOnlyWrongReplies}
 use Rattle.audit.specs.History.{TellsHistory}
 use Rattle.audit.specs.Made.{MakesRecords}
-use Rattle.audit.specs.MadeAudit.{AuditsMade, MissesNoWrongReply, WhateverIsMade}
+use Rattle.audit.specs.MadeAudit.{AuditsMade, SpeaksOfMade}
 use Rattle.audit.specs.declared.plain.Verdict.{Verdict}
 use Rattle.follow.specs.Following.{Follows}
 use Rattle.audit.specs.declared.plain.Verdict.TheVariants.{Clean, Dirty}
@@ -36,13 +36,11 @@ abbrev pub IsDirtyAudit : {F : Type 0} → Counted F → Counted F → List ℕ 
 IsDirtyAudit trace evidence old new = IsAudit Dirty (λ a. ⊤) trace evidence old new
 
 -- All that the file gave, to its end, is a trace, and what a writer took is the report on it and on evidence that was
--- made for it, with this verdict; a reply that a finding calls wrong is wrong; of each entry by itself, what is wrong
--- with it is told on its line; and a wrong reply that is not called so is that of an entry out of reach, and has an F7.
+-- made for it, with this verdict; and whatever evidence is made, what holds of the findings by that (`SpeaksOfMade`).
 abbrev pub IsAuditMade : {F : Type 0} → Verdict → (List ℕ → Type 0) → Counted F → List ℕ → List ℕ → Type 0
 IsAuditMade v OfTrace trace old new =
-    (stops_of trace ≡ 1) × AuditsMade (moved_by trace) old new v
-    × WhateverIsMade HasOnlyWrongRepliesNamed (moved_by trace) × WhateverIsMade SpeaksOfEachEntry (moved_by trace)
-    × WhateverIsMade MissesNoWrongReply (moved_by trace) × OfTrace (moved_by trace)
+    (stops_of trace ≡ 1) × AuditsMade (moved_by trace) old new v × SpeaksOfMade (moved_by trace)
+    × OfTrace (moved_by trace)
 
 -- and the trace is right and fresh
 abbrev pub IsCleanAuditMade : {F : Type 0} → Counted F → List ℕ → List ℕ → Type 0
@@ -52,10 +50,10 @@ abbrev pub IsDirtyAuditMade : {F : Type 0} → Counted F → List ℕ → List �
 IsDirtyAuditMade trace old new = IsAuditMade Dirty (λ a. ⊤) trace old new
 
 -- All that the file gave, to its end, is a trace, and what a writer took is what was told of it as it came, with this
--- verdict: what is found on it by evidence that was made, each finding once.
+-- verdict: what is found on it by evidence that was made, each finding once; and `SpeaksOfMade`, as of an audit.
 abbrev pub IsFollowing : {F : Type 0} → Verdict → (List ℕ → Type 0) → Counted F → List ℕ → List ℕ → Type 0
 IsFollowing v OfTrace trace old new =
-    (stops_of trace ≡ 1) × Follows (moved_by trace) old new v × OfTrace (moved_by trace)
+    (stops_of trace ≡ 1) × Follows (moved_by trace) old new v × SpeaksOfMade (moved_by trace) × OfTrace (moved_by trace)
 
 -- and the trace is right and fresh
 abbrev pub IsCleanFollowing : {F : Type 0} → Counted F → List ℕ → List ℕ → Type 0

@@ -1,9 +1,8 @@
 //! The lines of a trace, one by one.
 
-ghost use Rattle.std.specs.Prelude.{◌≡◌, ◌≢◌, ◌+◌, ◌≤◌, ◌<◌, Ok, true};
-ghost use Rattle.devices.specs.Given.{AreNext};
+ghost use Rattle.std.specs.Prelude.{◌+◌, ◌≤◌};
 ghost use Rattle.json_lines.specs.declared.reading.TheConstants.{MAX_INPUT};
-ghost use Rattle.trace_lines.specs.TraceReads.{IsTraceSoFar, TraceRead, trace_by};
+ghost use Rattle.trace_lines.specs.TraceReads.{TakesLine, TraceRead};
 ghost use Rattle.trace_lines.specs.Values.{next_line};
 
 use crate::builder::TraceBuilder;
@@ -20,20 +19,9 @@ pub fn take_next<R: Source>(
 ) -> Result<bool, TraceFault>
     requires next { next_line builder.old ≤ lines.old.number }
     requires room { lines.old.number + lines.old.room ≤ MAX_INPUT + 1 }
-    // Where a line follows, all before it were taken.
-    ensures goes { result ≡ Ok true → (first : R)
-        → IsTraceSoFar R.given R.ends R.failures R.remaining first reader.old builder.old lines.old
-        → IsTraceSoFar R.given R.ends R.failures R.remaining first reader.new builder.new lines.new }
-    ensures next { result ≡ Ok true → (lines.new.number ≡ lines.old.number + 1)
-        × (next_line builder.new ≤ lines.new.number) }
-    ensures room { result ≡ Ok true → (lines.new.number + lines.new.room ≤ MAX_INPUT + 1)
-        × (lines.new.room < lines.old.room) }
-    // Else the whole trace was read, or a line is refused.
-    ensures read { result ≢ Ok true → (first : R)
-        → IsTraceSoFar R.given R.ends R.failures R.remaining first reader.old builder.old lines.old
-        → TraceRead R.given R.ends R.failures R.remaining first reader.new (trace_by builder.new result) }
-    // What came is the next of what the reader had left, where that is known.
-    ensures known { AreNext R.given R.ends R.remaining reader.old reader.new }
+    ensures { TakesLine R.given R.ends R.failures R.remaining
+        (λ first. TraceRead R.given R.ends R.failures R.remaining first reader.new)
+        reader.old reader.new builder.old builder.new lines.old lines.new result }
 {
     match lines.take_next(reader, builder) {
         Ok(more) => Ok(more),
