@@ -5,7 +5,7 @@ ghost use Rattle.std.specs.Prelude.{◌≡◌};
 use crate::finds::Finds;
 use crate::made_audit::judgement_made;
 use evidence_check::Judged;
-use evidence_maker::Maker;
+use evidence_maker::{Maker, PausedMaker};
 use monitor::Judge;
 use std::alloc::{AllocError, Global};
 use trace_lines::Trace;
@@ -17,14 +17,39 @@ pub struct MakingJudge<'t> {
     pub finds: Finds,
 }
 
+/// What such a judge found of rules and made for entries of a trace, while more of that comes.
+#[derive(Drop)]
+pub struct PausedJudge {
+    pub maker: PausedMaker,
+    pub finds: Finds,
+}
+
 impl<'t> MakingJudge<'t> {
-    /// With what was made for the trace so far.
-    pub fn new(alloc: Global, trace: &'t Trace, finds: Finds) -> MakingJudge<'t>
-        ensures { result.maker ≡ trace.entry.now }
+    /// What was found and made, while more of the trace comes.
+    pub fn pause(self) -> PausedJudge {
+        PausedJudge {
+            maker: self.maker.pause(),
+            finds: self.finds,
+        }
+    }
+}
+
+impl PausedJudge {
+    /// Nothing was found or made.
+    pub fn new(alloc: Global) -> PausedJudge {
+        PausedJudge {
+            maker: PausedMaker::new(alloc),
+            finds: Finds::new(alloc),
+        }
+    }
+
+    /// A judge for the trace as far as it came.
+    pub fn resume(self, alloc: Global, trace: &Trace) -> MakingJudge<'_>
+        ensures { result.maker ≡ trace.now }
     {
         MakingJudge {
-            maker: Maker::new(alloc, trace),
-            finds,
+            maker: self.maker.resume(alloc, trace),
+            finds: self.finds,
         }
     }
 }

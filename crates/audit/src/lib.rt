@@ -60,7 +60,7 @@ pub use early::audit_early;
 pub use findings::{Finding, What, findings_of, report_line, report_of};
 pub use finds::Finds;
 pub use joined::audit_joined;
-pub use judging::MakingJudge;
+pub use judging::{MakingJudge, PausedJudge};
 pub use made::{make_records, make_records_listing};
 pub use made_audit::audit_made;
 pub use plain::{AuditFault, Verdict, audit_plain, audit_values};

@@ -13,6 +13,9 @@
 //! misses is looked at again. How few the steps are is not promised: longer evidence that fits would meet the
 //! contract too. [`laws`] say why there is evidence to find.
 //!
+//! What a [`Maker`] found of rules of many places serves for the entries behind. Where more of the trace comes, it is
+//! put aside as a [`PausedMaker`], and taken up again over the longer trace.
+//!
 //! ```text
 //! let steps = make(alloc, &trace, 0)?;
 //! ```
@@ -28,4 +31,4 @@ mod settle;
 pub use fault::MakeFault;
 pub use goal_cone::{MAX_LINKS, MAX_USERSETS};
 pub use like::Found;
-pub use maker::{Made, Maker, make};
+pub use maker::{Made, Maker, PausedMaker, make};

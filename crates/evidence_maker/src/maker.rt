@@ -100,10 +100,10 @@ fn steps_of(alloc: Global, settled: Vec<Settled>) -> Result<Steps, AllocError> {
 }
 
 /// What a search settles of an entry's goal.
-fn searched<'t>(
+fn searched(
     alloc: Global,
-    trace: &'t Trace,
-    rules: &mut WideRules<'t>,
+    trace: &Trace,
+    rules: &mut WideRules,
     entry: &Entry<'_>,
 ) -> Result<Option<Vec<Settled>>, AllocError> {
     let snapshot = trace.timeline().at(entry.snapshot);
@@ -112,10 +112,10 @@ fn searched<'t>(
 
 /// Evidence that is found without a look at the goal's whole cone: by the way that was found for another entry, or by
 /// a direct search.
-fn made_soon<'t>(
+fn made_soon(
     alloc: Global,
-    asked: &mut AskedRules<'t>,
-    rules: &mut WideRules<'t>,
+    asked: &mut AskedRules<'_>,
+    rules: &mut WideRules,
     entry: &Entry<'_>,
     found: Option<Found<'_>>,
 ) -> Result<Option<Made>, AllocError>
@@ -132,10 +132,10 @@ fn made_soon<'t>(
 }
 
 /// The places of the facts of a cone that hold by a search, in the order in which that showed.
-fn order_of<'t>(
+fn order_of(
     alloc: Global,
-    snapshot: &Snapshot<'t>,
-    rules: &mut WideRules<'t>,
+    snapshot: &Snapshot<'_>,
+    rules: &mut WideRules,
     user: u64,
     cone: &[Fact],
 ) -> Result<Vec<usize>, AllocError> {
@@ -158,7 +158,7 @@ fn made_for<'t>(
     alloc: Global,
     asked: &mut AskedRules<'t>,
     leaves: &mut Leaves<'t>,
-    rules: &mut WideRules<'t>,
+    rules: &mut WideRules,
     entry: &Entry<'_>,
     found: Option<Found<'_>>,
 ) -> Result<Made, MakeFault>
@@ -199,7 +199,15 @@ pub struct Maker<'t> {
     alloc: Global,
     asked: AskedRules<'t>,
     leaves: Leaves<'t>,
-    rules: WideRules<'t>,
+    rules: WideRules,
+}
+
+/// What a maker found of the rules of a trace, while more of that comes.
+#[derive(Drop)]
+pub struct PausedMaker {
+    // of how many declarations
+    declarations: usize,
+    rules: WideRules,
 }
 
 impl<'t> Model for Maker<'t> {
@@ -225,7 +233,15 @@ impl<'t> Maker<'t> {
             alloc,
             asked: AskedRules::new(alloc, trace),
             leaves: Leaves::new(alloc, trace.rules()),
-            rules: WideRules::new(alloc, trace.rules()),
+            rules: WideRules::new(alloc),
+        }
+    }
+
+    /// What was found of rules, while more of the trace comes.
+    pub fn pause(self) -> PausedMaker {
+        PausedMaker {
+            declarations: self.asked.trace().rules().len(),
+            rules: self.rules,
         }
     }
 
@@ -251,6 +267,28 @@ impl<'t> Maker<'t> {
             &entry,
             found,
         )
+    }
+}
+
+impl PausedMaker {
+    /// Nothing was found.
+    pub fn new(alloc: Global) -> PausedMaker {
+        PausedMaker {
+            declarations: 0,
+            rules: WideRules::new(alloc),
+        }
+    }
+
+    /// A maker for the trace as far as it came. Where rules came, what was found before is let go: a trace has 4,096
+    /// declarations at most.
+    pub fn resume(self, alloc: Global, trace: &Trace) -> Maker<'_>
+        ensures { result ≡ trace.now }
+    {
+        let mut maker = Maker::new(alloc, trace);
+        if self.declarations == trace.rules().len() {
+            maker.rules = self.rules;
+        }
+        maker
     }
 }
 

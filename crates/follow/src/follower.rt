@@ -8,7 +8,7 @@ ghost use Rattle.follow.specs.Heartbeats.{AreSettledTo, Beats, IsThrough, open_i
 ghost use Rattle.follow.specs.SoFar.{IsFollowed, TellsPiece, TellsRest};
 
 use crate::heartbeat::{Heartbeat, push_heartbeat, settled_from};
-use audit::{Finds, MakingJudge, Verdict};
+use audit::{MakingJudge, PausedJudge, Verdict};
 use findings::{Finding, push_last_lines, push_lines};
 use monitor::{Monitor, tell_further};
 use std::alloc::{AllocError, Global};
@@ -27,8 +27,8 @@ pub struct Follower {
     pub settled: usize,
     /// How many entries were settled at the last heartbeat.
     pub beaten: usize,
-    // what was made for entries, to be tried for others
-    pub finds: Finds,
+    // what was found of rules, and made for entries, to be tried for others
+    pub judge: PausedJudge,
 }
 
 impl Follower {
@@ -43,17 +43,18 @@ impl Follower {
             told: Vec::new(alloc),
             settled: 0,
             beaten: 0,
-            finds: Finds::new(alloc),
+            judge: PausedJudge::new(alloc),
         }
     }
 
+    /// The judge, who is to be put back.
     fn judge<'t>(&mut self, trace: &'t Trace) -> MakingJudge<'t>
         ensures trace { result.maker ≡ trace.entry.now }
         ensures same { (self.new.monitor ≡ self.old.monitor) × (self.new.told ≡ self.old.told)
             × (self.new.settled ≡ self.old.settled) × (self.new.beaten ≡ self.old.beaten) }
     {
-        let finds = replace(&mut self.finds, Finds::new(self.alloc));
-        MakingJudge::new(self.alloc, trace, finds)
+        let judge = replace(&mut self.judge, PausedJudge::new(self.alloc));
+        judge.resume(self.alloc, trace)
     }
 
     /// How many entries are not settled, where all were taken.
@@ -101,7 +102,7 @@ impl Follower {
         let before = self.told.len();
         let mut judge = self.judge(trace);
         tell_further(trace, &mut self.monitor, &mut judge, &mut self.told)?;
-        self.finds = judge.finds;
+        self.judge = judge.pause();
         let mut text = String::new(self.alloc);
         push_lines(&self.told[before..], &mut text)?;
         push_heartbeat(self.heartbeat(trace, line), &mut text)?;

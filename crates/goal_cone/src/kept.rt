@@ -1,7 +1,7 @@
-//! The rules of many places of one trace that were asked for, and what was found of them, from goal to goal.
+//! The rules of many places that were asked for, and what was found of them, from goal to goal.
 
-use crate::groups::{Read, Reading, reading_at};
-use crate::leaves::{Leaves, ReadPart};
+use crate::groups::{Groups, Read, Reading, reading_at};
+use crate::leaves::{ReadPart, leaves_at};
 use crate::through::{declared_at, may_declare};
 use crate::wide::{Tupleset, WideRule};
 use namespaces::{PlainRule, RulePlace, Rules};
@@ -23,13 +23,12 @@ pub(crate) struct Named<'t> {
     pub(crate) group: usize,
 }
 
-/// The rules of many places of one trace that were asked for, from goal to goal. The stages of one goal are no more
-/// than what it reads.
+/// The rules of many places that were asked for, from goal to goal: they are to be asked over the same rules, which are
+/// lent at each call. The stages of one goal are no more than what it reads.
 #[derive(Drop)]
-pub struct WideRules<'t> {
+pub struct WideRules {
     alloc: Global,
-    leaves: Leaves<'t>,
-    rules: Vec<WideRule<'t>>,
+    rules: Vec<WideRule>,
     // by their places
     numbers: BTreeMap<(usize, usize), usize>,
     // how many stages the rules have at most
@@ -42,13 +41,14 @@ pub struct WideRules<'t> {
 /// What is read first through each tupleset of some leaves.
 fn tuplesets_of(
     alloc: Global,
-    rule: &WideRule<'_>,
+    groups: &Groups,
+    rule: &PartedRule,
     leaves: &[ReadPart],
 ) -> Result<Vec<Tupleset>, AllocError> {
     let mut tuplesets = Vec::new(alloc);
     for part in 0..leaves.len() {
         if let Part::Through(through) = &leaves[part].part {
-            if let Some(first) = first_read(rule, through) {
+            if let Some(first) = first_read(groups, rule, through) {
                 tuplesets.push(Tupleset { part, first })?;
             }
         }
@@ -57,19 +57,23 @@ fn tuplesets_of(
 }
 
 /// What a rule reads first through a tupleset.
-fn first_read(rule: &WideRule<'_>, through: &Through) -> Option<Read> {
+fn first_read(groups: &Groups, rule: &PartedRule, through: &Through) -> Option<Read> {
     let reading = Reading {
         tupleset: through.tupleset.as_str(),
         relation: through.name(0)?,
     };
-    rule.groups.read_as(&rule.rule.parts, reading)
+    groups.read_as(&rule.parts, reading)
 }
 
-impl<'t> WideRules<'t> {
-    pub fn new(alloc: Global, rules: &'t Rules) -> WideRules<'t> {
+/// The parts of a rule.
+fn parted<'t>(rules: &'t Rules, wide: &WideRule) -> Option<&'t PartedRule> {
+    rules.plain_in(wide.place)?.parted.as_ref()
+}
+
+impl WideRules {
+    pub fn new(alloc: Global) -> WideRules {
         WideRules {
             alloc,
-            leaves: Leaves::new(alloc, rules),
             rules: Vec::new(alloc),
             numbers: BTreeMap::new(alloc),
             stages: 0,
@@ -98,24 +102,25 @@ impl<'t> WideRules<'t> {
     /// The number of the rule at a place, which is added where it was not yet.
     pub(crate) fn number(
         &mut self,
+        rules: &Rules,
         place: RulePlace,
         plain: &PlainRule,
-        rule: &'t PartedRule,
+        rule: &PartedRule,
     ) -> Result<usize, AllocError> {
         let key = (place.line, place.relation);
         if let Some(number) = self.numbers.get(&key).copied() {
             return Ok(number);
         }
-        let leaves = self.leaves.number(place)?;
-        let mut wide = WideRule::of(self.alloc, plain, rule, leaves)?;
-        wide.tuplesets = tuplesets_of(self.alloc, &wide, self.leaves.parts(leaves))?;
+        let leaves = leaves_at(self.alloc, rules, place)?;
+        let mut wide = WideRule::of(self.alloc, place, plain, rule, leaves)?;
+        wide.tuplesets = tuplesets_of(self.alloc, &wide.groups, rule, &wide.leaves)?;
         let number = self.rules.len();
         self.rules.push(wide)?;
         let _ = self.numbers.insert(key, number)?;
         Ok(number)
     }
 
-    pub(crate) fn get(&self, number: usize) -> Option<&WideRule<'t>> {
+    pub(crate) fn get(&self, number: usize) -> Option<&WideRule> {
         self.rules.get(number)
     }
 
@@ -136,9 +141,14 @@ impl<'t> WideRules<'t> {
     }
 
     /// The leaf of the object itself that a rule reads at a place, and its group.
-    pub(crate) fn own(&self, number: usize, place: usize) -> Option<(&'t Rewrite, usize)> {
+    pub(crate) fn own<'t>(
+        &self,
+        rules: &'t Rules,
+        number: usize,
+        place: usize,
+    ) -> Option<(&'t Rewrite, usize)> {
         let wide = self.rules.get(number)?;
-        let rule = wide.rule;
+        let rule = parted(rules, wide)?;
         let read = wide.groups.own().get(place).copied()?;
         match rule.parts.get(read.part)? {
             Part::Leaf(leaf) => Some((leaf, read.group)),
@@ -147,19 +157,29 @@ impl<'t> WideRules<'t> {
     }
 
     /// The name of the tupleset at a place, of those through which a rule reads, and what it reads there.
-    pub(crate) fn tupleset(&self, number: usize, place: usize) -> Option<(&'t str, &ReadPart)> {
+    pub(crate) fn tupleset<'s, 't>(
+        &'s self,
+        rules: &'t Rules,
+        number: usize,
+        place: usize,
+    ) -> Option<(&'t str, &'s ReadPart)> {
         let wide = self.rules.get(number)?;
-        let rule = wide.rule;
+        let rule = parted(rules, wide)?;
         let tupleset = wide.tuplesets.get(place).copied()?;
         let reading = reading_at(&rule.parts, tupleset.first)?;
-        let part = self.leaves.parts(wide.leaves).get(tupleset.part)?;
+        let part = wide.leaves.get(tupleset.part)?;
         Some((reading.tupleset, part))
     }
 
     /// What the rule reads as that.
-    fn named(&self, number: usize, reading: Reading<'_>) -> Option<Named<'t>> {
+    fn named<'t>(
+        &self,
+        rules: &'t Rules,
+        number: usize,
+        reading: Reading<'_>,
+    ) -> Option<Named<'t>> {
         let wide = self.rules.get(number)?;
-        let rule = wide.rule;
+        let rule = parted(rules, wide)?;
         let read = wide.groups.read_as(&rule.parts, reading)?;
         Some(Named {
             relation: reading_at(&rule.parts, read)?.relation,
@@ -169,16 +189,16 @@ impl<'t> WideRules<'t> {
 
     /// The relations that a rule reads through a tupleset and that a namespace declares at a timestamp, from the
     /// shorter of both lists.
-    pub(crate) fn names_read(
+    pub(crate) fn names_read<'t>(
         &self,
-        rules: &Rules,
+        rules: &'t Rules,
         number: usize,
         place: usize,
         namespace: &str,
         at: u64,
     ) -> Result<Vec<Named<'t>>, AllocError> {
         let mut names = Vec::new(self.alloc);
-        let Some((tupleset, part)) = self.tupleset(number, place) else {
+        let Some((tupleset, part)) = self.tupleset(rules, number, place) else {
             return Ok(names);
         };
         let Part::Through(through) = &part.part else {
@@ -204,7 +224,7 @@ impl<'t> WideRules<'t> {
                 continue;
             };
             let reading = Reading { tupleset, relation };
-            if let Some(named) = self.named(number, reading) {
+            if let Some(named) = self.named(rules, number, reading) {
                 names.push(named)?;
             }
         }
@@ -228,23 +248,37 @@ impl<'t> WideRules<'t> {
         rule.find_behind(stage, group)
     }
 
-    pub(crate) fn opens(&mut self, number: usize, stage: usize) -> bool {
-        match self.rules.get_mut(number) {
-            Some(rule) => rule.opens(stage),
+    pub(crate) fn opens(&mut self, rules: &Rules, number: usize, stage: usize) -> bool {
+        let Some(wide) = self.rules.get_mut(number) else {
+            return false;
+        };
+        if let Some(is_open) = wide.known_open(stage) {
+            return is_open;
+        }
+        match parted(rules, wide) {
+            Some(rule) => wide.opens(rule, stage),
             None => false,
         }
     }
 
     /// Finds on which groups a rule leans, for [`WideRules::leaning`]. Where that gets too much, what was found before
     /// is forgotten.
-    pub(crate) fn find_leaning(&mut self, number: usize, stage: usize) -> Result<(), AllocError> {
+    pub(crate) fn find_leaning(
+        &mut self,
+        rules: &Rules,
+        number: usize,
+        stage: usize,
+    ) -> Result<(), AllocError> {
         if self.leaning.contains_key(&(number, stage)) {
             return Ok(());
         }
-        let Some(rule) = self.rules.get_mut(number) else {
+        let Some(wide) = self.rules.get_mut(number) else {
             return Ok(());
         };
-        let groups = rule.leaning(self.alloc, stage)?;
+        let Some(rule) = parted(rules, wide) else {
+            return Ok(());
+        };
+        let groups = wide.leaning(self.alloc, rule, stage)?;
         let more = groups.len().saturating_add(1);
         if self.leaned.saturating_add(more) > MOST_LEANING {
             self.forget_leaning();

@@ -157,6 +157,20 @@ fn each_noted(alloc: Global, rules: &Rules, parts: Vec<Part>) -> Result<Vec<Read
     Ok(read)
 }
 
+/// The leaves of the rule at a place, each once; those that go through one tupleset are one part.
+pub(crate) fn leaves_at(
+    alloc: Global,
+    rules: &Rules,
+    place: RulePlace,
+) -> Result<Vec<ReadPart>, AllocError>
+    ensures leaves { IfOk result (λ v. HaveLeavesOf (read_shown v.items) (expression_in place rules.now)) }
+    ensures noted { IfOk result (λ v. (r : ReadPart) → Contains v.items r → IsNoted rules.now r) }
+{
+    let leaves = rules.leaves_in(alloc, place)?;
+    let parts = parts_of(alloc, leaves)?;
+    each_noted(alloc, rules, parts)
+}
+
 impl<'r> Leaves<'r> {
     /// Of these rules nothing was asked.
     pub fn new(alloc: Global, rules: &'r Rules) -> Leaves<'r>
@@ -183,9 +197,7 @@ impl<'r> Leaves<'r> {
         if number < self.placed.len() && self.placed[number].place == place {
             return Ok(number);
         }
-        let leaves = self.rules.leaves_in(self.alloc, place)?;
-        let parts = parts_of(self.alloc, leaves)?;
-        let parts = each_noted(self.alloc, self.rules, parts)?;
+        let parts = leaves_at(self.alloc, self.rules, place)?;
         let number = self.placed.len();
         self.placed.push(PlacedLeaves { place, parts })?;
         let _ = self.numbers.insert(key, number)?;

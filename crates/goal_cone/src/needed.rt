@@ -117,7 +117,8 @@ impl<'s, 't> Search<'s, 't> {
                 self.lean_on_exclusion(node, needed)
             }
             Rule::Many(wide) => {
-                self.wide.find_leaning(wide, node.stage)?;
+                let rules = self.snapshot.timeline.rules();
+                self.wide.find_leaning(rules, wide, node.stage)?;
                 self.lean_on_groups(node, wide, needed)
             }
             _ => {

@@ -50,9 +50,9 @@ struct Site<'s> {
 #[derive(Drop)]
 pub struct Search<'s, 't> {
     pub(crate) alloc: Global,
-    snapshot: &'s Snapshot<'t>,
+    pub(crate) snapshot: &'s Snapshot<'t>,
     pub(crate) user: u64,
-    pub(crate) wide: &'s mut WideRules<'t>,
+    pub(crate) wide: &'s mut WideRules,
     pub(crate) nodes: Nodes<'s>,
     runs: Runs,
     last: Option<LastRule<'s>>,
@@ -88,7 +88,7 @@ impl<'s, 't> Search<'s, 't> {
     pub fn new(
         alloc: Global,
         snapshot: &'s Snapshot<'t>,
-        wide: &'s mut WideRules<'t>,
+        wide: &'s mut WideRules,
         user: u64,
     ) -> Search<'s, 't> {
         wide.make_room();
@@ -133,7 +133,7 @@ impl<'s, 't> Search<'s, 't> {
             return Ok(None);
         };
         let rule = match &plain.parted {
-            Some(parted) => Rule::Many(self.wide.number(place, plain, parted)?),
+            Some(parted) => Rule::Many(self.wide.number(rules, place, plain, parted)?),
             None => Rule::Few(&plain.rewrite),
         };
         self.last = Some(LastRule {
@@ -603,7 +603,8 @@ impl<'s, 't> Search<'s, 't> {
         if let Some(read) = self.first_lower(number, node, wide) {
             return self.settle_first(number, read);
         }
-        if self.wide.opens(wide, node.stage) {
+        let rules = self.snapshot.timeline.rules();
+        if self.wide.opens(rules, wide, node.stage) {
             self.hold(number, None)?;
         }
         Ok(())
@@ -637,8 +638,9 @@ impl<'s, 't> Search<'s, 't> {
             part: 0,
             is_fact: true,
         };
+        let rules = self.snapshot.timeline.rules();
         for place in 0..self.wide.count_own(wide) {
-            if let Some((leaf, part)) = self.wide.own(wide, place) {
+            if let Some((leaf, part)) = self.wide.own(rules, wide, place) {
                 self.read_own(Site { part, ..site }, leaf)?;
             }
         }
@@ -664,7 +666,8 @@ impl<'s, 't> Search<'s, 't> {
         wide: usize,
         place: usize,
     ) -> Result<Vec<SetRef<'s>>, AllocError> {
-        if let Some((tupleset, part)) = self.wide.tupleset(wide, place) {
+        let rules = self.snapshot.timeline.rules();
+        if let Some((tupleset, part)) = self.wide.tupleset(rules, wide, place) {
             if let Part::Through(through) = &part.part {
                 let set = MarkedSet::of(under(set, tupleset));
                 return objects(self.alloc, self.snapshot, set, through, part.declaring);

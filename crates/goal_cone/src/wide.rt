@@ -4,8 +4,9 @@
 //! for the others. So a rule is walked over once for each way in which its groups opened, and not once for each fact.
 
 use crate::groups::{Groups, Read};
+use crate::leaves::ReadPart;
 use crate::walks::{gives_stored, has_exclusions, lean, opens};
-use namespaces::PlainRule;
+use namespaces::{PlainRule, RulePlace};
 use rewrites::PartedRule;
 use std::alloc::{AllocError, Global};
 use std::collections::BTreeMap;
@@ -35,11 +36,10 @@ pub(crate) struct Tupleset {
 
 /// A rule of many places, with the stages that facts of it have come to.
 #[derive(Drop)]
-pub(crate) struct WideRule<'t> {
-    pub(crate) rule: &'t PartedRule,
+pub(crate) struct WideRule {
+    pub(crate) place: RulePlace,
     pub(crate) groups: Groups,
-    /// The number of its leaves.
-    pub(crate) leaves: usize,
+    pub(crate) leaves: Vec<ReadPart>,
     pub(crate) tuplesets: Vec<Tupleset>,
     pub(crate) gives_stored: bool,
     pub(crate) has_exclusions: bool,
@@ -71,20 +71,21 @@ fn first_stage() -> Stage {
     }
 }
 
-impl<'t> WideRule<'t> {
+impl WideRule {
     pub(crate) fn of(
         alloc: Global,
+        place: RulePlace,
         plain: &PlainRule,
-        rule: &'t PartedRule,
-        leaves: usize,
-    ) -> Result<WideRule<'t>, AllocError> {
+        rule: &PartedRule,
+        leaves: Vec<ReadPart>,
+    ) -> Result<WideRule, AllocError> {
         let mut stages = Vec::new(alloc);
         stages.push(first_stage())?;
         let open = vec![in alloc; 0usize; rule.parts.len()]?;
         let groups = Groups::of(alloc, &rule.parts)?;
         let open_groups = vec![in alloc; 0usize; groups.len().saturating_add(1)]?;
         Ok(WideRule {
-            rule,
+            place,
             groups,
             leaves,
             tuplesets: Vec::new(alloc),
@@ -179,16 +180,18 @@ impl<'t> WideRule<'t> {
         }
     }
 
-    /// Whether the rule is open at a stage.
-    pub(crate) fn opens(&mut self, stage: usize) -> bool {
-        let Some(found) = self.stages.get(stage).copied() else {
-            return false;
-        };
-        if let Some(is_open) = found.is_open {
+    /// Whether the rule is open at a stage, where that was asked.
+    pub(crate) fn known_open(&self, stage: usize) -> Option<bool> {
+        self.stages.get(stage)?.is_open
+    }
+
+    /// Whether the rule, which has these parts, is open at a stage.
+    pub(crate) fn opens(&mut self, rule: &PartedRule, stage: usize) -> bool {
+        if let Some(is_open) = self.known_open(stage) {
             return is_open;
         }
         self.set_groups(stage, true);
-        let is_open = opens(&self.rule.top, &self.open);
+        let is_open = opens(&rule.top, &self.open);
         self.set_groups(stage, false);
         if let Some(found) = self.stages.get_mut(stage) {
             found.is_open = Some(is_open);
@@ -227,12 +230,13 @@ impl<'t> WideRule<'t> {
     pub(crate) fn leaning(
         &mut self,
         alloc: Global,
+        rule: &PartedRule,
         stage: usize,
     ) -> Result<Vec<usize>, AllocError> {
-        let mut kept = vec![in alloc; false; self.rule.parts.len()]?;
-        let is_open = self.opens(stage);
+        let mut kept = vec![in alloc; false; rule.parts.len()]?;
+        let is_open = self.opens(rule, stage);
         self.set_groups(stage, true);
-        lean(&self.rule.top, is_open, &self.open, &mut kept);
+        lean(&rule.top, is_open, &self.open, &mut kept);
         let groups = self.groups_of(alloc, &kept);
         self.set_groups(stage, false);
         groups

@@ -2,26 +2,18 @@ use Rattle.std.proofs.Common.{rules, Some, ◌≡◌, ◌∷◌, ◌++◌, [], l
 use Rattle.std.proofs.lemmas.Option.{slice_get_read}
 use Rattle.std.specs.Prelude.{slice_get}
 use Rattle.marks.proofs.PlacedLemmas.{slice_get-next}
-use Rattle.namespaces.specs.Lookup.{expression_in}
-use Rattle.rewrites.specs.Parts.{parts_shown}
-use Rattle.rewrites.specs.View.{expression_of}
 use Rattle.goal_cone.specs.Leaves.{ArePlaced, IsPlaced, LeavesValue, read_shown}
 use Rattle.goal_cone.specs.declared.leaves.PlacedLeaves.{PlacedLeaves}
-use Rattle.goal_cone.proofs.OnceLemmas.{found_leaves, grouped, one_placed_more}
+use Rattle.goal_cone.proofs.OnceLemmas.{found_leaves, one_placed_more}
 use Rattle.goal_cone.proofs.leaves.Leaves.number.Goals.{After-push}
 use Rattle.goal_cone.proofs.leaves.Leaves.number.Goals as goal
 
 next : (c : After-push) → PlacedLeaves
-next c = record { place = c.args.place; parts = c.in_ok-parts-2.parts }
+next c = record { place = c.args.place; parts = c.in_ok-parts.parts }
 
 right : (c : After-push) → IsPlaced c.self.inside.rules.now (next c)
 unfolding next
-right c = record {
-  leaves = rw c.in_ok-parts-2.ensures.shown
-      (grouped (parts_shown c.in_ok-parts.parts.items) (map expression_of c.in_ok-leaves.leaves.items) (expression_in c.args.place c.self.inside.rules.now)
-      c.in_ok-parts.ensures c.in_ok-leaves.ensures);
-  noted = c.in_ok-parts-2.ensures.noted;
-}
+right c = record { leaves = c.in_ok-parts.ensures.leaves; noted = c.in_ok-parts.ensures.noted }
 
 all : (c : After-push) → ArePlaced c.self.inside.rules.now (c.self.inside.placed.items ++ next c ∷ [])
 unfolding next
