@@ -21,6 +21,7 @@ from http.server import BaseHTTPRequestHandler, HTTPServer
 from random import Random
 
 from new_enemy_tools.commands.monitor import given_of
+from new_enemy_tools.monitoring.delivery import Send
 from new_enemy_tools.monitoring.receivers import Syslog
 from tests.ports import free_port
 from tests.recorded import Client, Recorded
@@ -182,8 +183,7 @@ class Growing(Monitoring):
             one.kill()
             one.wait()
         self.ends(self.monitor("--once"))
-        # What was under way when it was killed may come again, with its id.
-        self.assertLessEqual(len(self.told()) - len({row["id"] for row in self.told()}), KILLS)
+        self.assertEqual(len(self.told()), len({row["id"] for row in self.told()}), "told twice")
         wanted, told = ({row["id"]: row for row in self.told(name)} for name in ("wanted", "told"))
         self.assertGreater(len(wanted), 20)
         self.assertEqual({key for key in told if "-" not in key}, {key for key in wanted if "-" not in key})
@@ -415,11 +415,57 @@ class Receivers(Hooked):
         self.assertEqual([json.loads(line)["alert"] for line in self.get("taken").splitlines()], [1, 1, 2, 3])
 
     def test_the_log_of_the_system(self):
+        send = Send("syslog", 1, "{}")
         with socket.socket(socket.AF_UNIX, socket.SOCK_DGRAM) as end:
             end.bind(self.path("log"))
-            self.assertIsNone(Syslog(self.path("log")).take("{}"))
+            self.assertIsNone(Syslog(self.path("log")).take(send))
             self.assertEqual(end.recv(100), b"<26>new_enemy: {}")
-        self.assertRegex(Syslog(self.path("none")).take("{}"), "No such file")
+        self.assertRegex(Syslog(self.path("none")).take(send), "No such file")
+
+    def test_a_command_that_outlives_its_monitor(self):
+        """It is not begun again: the next monitor waits for it, and goes on with the alert behind."""
+        self.log()
+        self.put("take", "#!/bin/sh\necho begun >> turns\nuntil test -e go; do sleep 0.05; done\ncat >> taken\n")
+        os.chmod(self.path("take"), 0o700)
+        one = self.monitor("--command", "./take")
+        self.wait_for(lambda: os.path.exists(self.path("turns")), lambda: self.get("monitor.err"))
+        one.kill()
+        one.wait()
+        one = self.monitor("--once", "--command", "./take")
+        self.wait_for(lambda: self.get("monitor.err").count("run 1 has ended") == 1, lambda: self.get("monitor.err"))
+        self.assertEqual(self.get("turns"), "begun\n")
+        self.put("go", "")
+        self.ends(one)
+        self.assertEqual([json.loads(line)["alert"] for line in self.get("taken").splitlines()], [1, 2, 3])
+        self.assertEqual(self.get("turns"), "begun\n" * 3)
+
+    def test_a_file_that_has_the_line_already(self):
+        """A monitor that was killed before its mark, or in a line, finds what the file has."""
+        self.log()
+        self.ends(self.monitor("--once"))
+        told = self.get("told")
+        self.assertEqual(len(told.splitlines()), 3)
+        first = told.splitlines(True)[0]
+        for number, (has, wanted) in enumerate(((told, told), (first[:40], told), (first, told), ("", told),
+                                                ("of others", "of others\n" + told))):
+            with self.subTest(has):
+                self.put("told%d" % number, has)
+                # Without marks and days it is told anew, as by a monitor that was killed in its first run.
+                self.ends(self.monitor("--once", told="told%d" % number, out="again%d" % number))
+                self.assertEqual(self.get("told%d" % number), wanted)
+
+    def test_marks_that_were_altered_or_taken_away(self):
+        """Each number is given to one alert alone, also where the journal is gone."""
+        self.log()
+        self.ends(self.monitor("--once"))
+        self.assertEqual(self.get("out/delivered/output"), "%020d\n" % 3)
+        shutil.rmtree(self.path("out/days"))
+        os.remove(self.path("out/alerts.jsonl"))
+        self.ends(self.monitor("--once"))
+        self.assertEqual([row["alert"] for row in self.told()], [1, 2, 3, 4, 5, 6])
+        self.put("out/delivered/output", "7\n")
+        self.ends(self.monitor("--once"), 2)
+        self.assertIn("out/delivered/output: this is no number of an alert", self.get("monitor.err"))
 
     def test_a_secret_that_is_none(self):
         self.log()

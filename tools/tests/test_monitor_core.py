@@ -56,6 +56,9 @@ class Simulated(CoreCase):
         wanted = {row["id"]: row for row in whole["two"]}
         self.assertEqual(len(wanted), len(whole["two"]), "told twice")
         self.assertEqual([row["id"] for row in whole["one"]], [row["id"] for row in whole["two"]])
+        # Who is up gets an alert once more where the monitor was killed before its mark; who can be asked, never.
+        self.assertLessEqual(len(broken["two"]), len(wanted) + lives)
+        self.assertEqual(len({row["id"] for row in broken["file"]}), len(broken["file"]), "told twice")
         for rows in broken.values():
             told = {row["id"]: row for row in rows}
             self.assertEqual(set(told), set(wanted), number)
@@ -91,8 +94,9 @@ class Simulated(CoreCase):
             broken, again, _ = told_by(lines_of(log), random, 0.01, False)
             for disk in kept, again:
                 self.assertEqual(by_finding(disk.counts), self.findings(log))
-            # Where the runs end hangs on which lines came together.
-            self.assertEqual(*({row["id"].partition(".")[0] for row in told["two"]} for told in (whole, broken)))
+            # Where the runs end hangs on which lines came together, and so do effects of changes behind an end.
+            self.assertEqual(*({(row["named"], row["reply"]) for row in told["two"] if row["kind"] == "finding"}
+                               for told in (whole, broken)))
 
 
 # Which of a story's requests, and which finding of it, is told first hangs on what came together.

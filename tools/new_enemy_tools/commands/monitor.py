@@ -14,7 +14,7 @@ import argparse
 import os
 import sys
 from argparse import Namespace
-from typing import Optional
+from typing import Iterator, Optional
 
 from new_enemy_tools import limits
 from new_enemy_tools.commands.running import Parser, add_allowing, percent
@@ -25,6 +25,7 @@ from new_enemy_tools.files import read_bytes
 from new_enemy_tools.monitoring.core import Settings
 from new_enemy_tools.monitoring.kept import options
 from new_enemy_tools.monitoring.machine import Machine, Way
+from new_enemy_tools.monitoring.marks import Mark
 from new_enemy_tools.monitoring.receivers import SYSLOG, Command, Output, Receiver, Syslog, Webhook
 from new_enemy_tools.recording.command import address_of, url_of
 from new_enemy_tools.shown import tell
@@ -114,15 +115,22 @@ def secret_of(path: Optional[str]) -> Optional[bytes]:
     return secret
 
 
+def numbered(name: str, texts: list[str]) -> Iterator[tuple[str, str]]:
+    """The first has the name alone."""
+    return (((name if number == 1 else "%s %d" % (name, number)), text) for number, text in enumerate(texts, 1))
+
+
+def mark_of(given: Namespace, name: str) -> Mark:
+    return Mark(os.path.join(given.out, "delivered", name))
+
+
 def receivers_of(parser: Parser, given: Namespace) -> dict[str, Receiver]:
-    """By the names under which what waits for them is kept."""
-    found: dict[str, Receiver] = {}
+    """By the names under which it is kept what they have."""
     secret = secret_of(given.secret)
-    for number, text in enumerate(given.webhook, 1):
-        name = "webhook" if number == 1 else "webhook %d" % number
-        found[name] = Webhook(url_of(parser, text), secret)
-    for number, text in enumerate(given.command, 1):
-        found["command" if number == 1 else "command %d" % number] = Command(text)
+    found: dict[str, Receiver] = {name: Webhook(url_of(parser, text), secret)
+                                  for name, text in numbered("webhook", given.webhook)}
+    for name, text in numbered("command", given.command):
+        found[name] = Command(text, mark_of(given, name))
     if given.syslog:
         found["syslog"] = Syslog(SYSLOG)
     if given.print or not found:
@@ -139,7 +147,8 @@ def way_of(parser: Parser, given: Namespace) -> Way:
     how = options(os.path.join(given.out, "days"), given.program, [log], given.html, given.keep_days,
                   given.allow_unaudited,
                   given.keep_snapshots, given.keep_versions)
-    return Way(log, given.out, how, settings, receivers, metrics, given.once)
+    marks = {name: mark_of(given, name) for name in receivers}
+    return Way(log, given.out, how, settings, receivers, marks, metrics, given.once)
 
 
 def main(words: list[str]) -> int:

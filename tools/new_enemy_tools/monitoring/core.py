@@ -2,12 +2,13 @@
 comes out.
 
 Of what it gives out `Keep` has to be on the disk before a `Send` behind it is sent, so that a monitor which is killed
-tells nothing twice that was kept, and loses nothing. A run that begins anew is given the lines of the log since the
-run's beginning, and the rows that were kept.
+loses nothing; and who sends marks what a receiver has before it is answered here, so that nothing is told twice that
+was marked. A run that begins anew is given the lines of the log since the run's beginning, the rows that were kept, and
+the marks.
 """
 import json
 from collections import Counter
-from typing import Iterable, Iterator, NamedTuple, Optional, Union
+from typing import Iterable, Iterator, Mapping, NamedTuple, Optional, Union
 
 from new_enemy_tools.coverage import Coverage
 from new_enemy_tools.monitoring.alerts import Alert, Known, Row, Stories, line_of
@@ -69,7 +70,8 @@ class Left(NamedTuple):
 
 
 class Core:
-    def __init__(self, settings: Settings, rows: Iterable[Row]):
+    def __init__(self, settings: Settings, rows: Iterable[Row], marks: Mapping[str, int]):
+        """`marks` has of each receiver up to which alert it has them."""
         self.settings = settings
         self.delivery = Delivery(settings.receivers)
         # of the run, and of the next alert
@@ -85,21 +87,16 @@ class Core:
         self.stopped_by: Optional[str] = None
         # of the runs by their numbers the stories that were told
         self._told: dict[int, dict[str, Known]] = {}
-        self._read(rows)
+        self._read(rows, marks)
 
-    def _read(self, rows: Iterable[Row]) -> None:
-        answered: set[tuple[int, str]] = set()
-        alerts: list[Row] = []
+    def _read(self, rows: Iterable[Row], marks: Mapping[str, int]) -> None:
+        # A journal may have been taken away; a number that was marked is given to no other alert.
+        self.next = max([self.next, *(number + 1 for number in marks.values())])
         for row in rows:
-            if "answered" in row:
-                answered.add((row["answered"], row["receiver"]))
-            elif "alert" in row:
-                alerts.append(row)
             self.next = max(self.next, row.get("next", 0), row.get("alert", 0) + 1)
             self._note(row)
-        for row in alerts:
-            for receiver in row["to"]:
-                if (row["alert"], receiver) not in answered:
+            for receiver in row.get("to", ()):
+                if row["alert"] > marks.get(receiver, 0):
                     self.delivery.put(Send(receiver, row["alert"], line_of(row["text"])))
 
     def _note(self, row: Row) -> None:
@@ -173,9 +170,8 @@ class Core:
         return telling._replace(told=[one for one in telling.told
                                       if (one.entry.source or "", one.finding.finding) not in self._held])
 
-    def answered(self, receiver: str, number: int, fault: Optional[str], now: float) -> Iterator[Out]:
-        if self.delivery.answered(receiver, number, fault, now):
-            yield Keep({"answered": number, "receiver": receiver})
+    def answered(self, receiver: str, number: int, fault: Optional[str], now: float) -> None:
+        self.delivery.answered(receiver, number, fault, now)
 
     def due(self, now: float) -> Iterator[Out]:
         yield from self.delivery.due(now)

@@ -17,6 +17,7 @@ from new_enemy_tools.monitoring.follower import Ended, Follower, Said
 from new_enemy_tools.monitoring.holding import Holding
 from new_enemy_tools.monitoring.journal import Journal
 from new_enemy_tools.monitoring.kept import RunFile, keep, start_of
+from new_enemy_tools.monitoring.marks import Mark
 from new_enemy_tools.monitoring.numbers import Before, exposition
 from new_enemy_tools.monitoring.receivers import Answered, Receiver, Teller
 from new_enemy_tools.monitoring.run import Run
@@ -41,6 +42,8 @@ class Way(NamedTuple):
     options: Namespace
     settings: Settings
     receivers: dict[str, Receiver]
+    # by the names of the receivers
+    marks: dict[str, Mark]
     metrics: Optional[tuple[str, int]]
     # whether it ends where the log does
     is_once: bool = False
@@ -53,8 +56,8 @@ class Machine:
         self.days = Days(way.options.folder)
         self.journal = Journal(os.path.join(way.folder, "alerts.jsonl"))
         self.inbox: "SimpleQueue[Any]" = SimpleQueue()
-        self.core = Core(way.settings, self.journal.read())
-        self.tellers = {name: Teller(name, one, self.inbox) for name, one in way.receivers.items()}
+        self.core = Core(way.settings, self.journal.read(), {name: one.begin() for name, one in way.marks.items()})
+        self.tellers = {name: Teller(name, one, way.marks[name], self.inbox) for name, one in way.receivers.items()}
         self.before = Before()
         self.is_stopping = self.is_caught_up = False
         self.began = self.looked = time.monotonic()
@@ -157,7 +160,7 @@ class Machine:
             if message.by is self.follower:
                 self.core.said(message.line, now)
         elif isinstance(message, Answered):
-            self._do(self.core.answered(message.receiver, message.number, message.fault, now))
+            self.core.answered(message.receiver, message.number, message.fault, now)
         elif isinstance(message, Ended) and message.by is self.follower and not self.run.is_closed:
             raise MonitorFault("the program refuses the trace: %s" % message.by.fault())
 
