@@ -87,9 +87,9 @@ class Receiver:
 class Life:
     """One life of a monitor, over the lines of a log, until it has read all or is killed."""
 
-    def __init__(self, lines, disk, receivers, random, kills, has_between, settings):
+    def __init__(self, lines, disk, receivers, random, kills, has_between, settings, nights=0.0):
         self.lines, self.disk, self.receivers, self.random, self.kills = lines, disk, receivers, random, kills
-        self.has_between, self.now = has_between, 0.0
+        self.has_between, self.now, self.nights = has_between, 0.0, nights
         self.core = Core(settings, disk.rows, disk.marks)
         self.begin(None)
 
@@ -163,6 +163,9 @@ class Life:
             self.do(self.core.move(self.now))
             self.do(self.core.tell(self.now))
             self.do(self.core.due(self.now))
+            if self.random.random() < self.nights:
+                # No line comes for a day.
+                self.do(self.core.pass_time(self.core.holding.midnight.at + 10 ** 9 if self.core.holding.midnight else 0))
         if self.run.bytes:
             self.end()
         while not self.core.delivery.is_idle:
@@ -178,16 +181,16 @@ def json_left(left):
                 [(source, finding) for source, finding in read["held"]])
 
 
-def told_by(lines, random, kills, has_between, lives=200):
+def told_by(lines, random, kills, has_between, nights=0.0, lives=200):
     """The alerts that each receiver got, and what was counted, of a monitor that is begun again when it
-    is killed; and how often it was."""
+    is killed; and how often it was. So often a day ends by the clock."""
     disk, settings = Disk(), Settings(("one", "two", "file"), again=float("inf"), hold=0.0,
                                       effects=frozenset(("wrong", "changed", "undecided", "possible", "none")))
     receivers = {"one": Receiver(random, 0.3 if kills else 0.0, False), "two": Receiver(random, 0.0, False),
                  "file": Receiver(random, 0.3 if kills else 0.0, True)}
     for life in range(lives + 1):
         try:
-            Life(lines, disk, receivers, random, kills if life < lives else 0.0, has_between, settings).live()
+            Life(lines, disk, receivers, random, kills if life < lives else 0.0, has_between, settings, nights).live()
             return {name: one.got for name, one in receivers.items()}, disk, life
         except Killed:
             pass

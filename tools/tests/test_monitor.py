@@ -17,6 +17,7 @@ import time
 import unittest
 import urllib.error
 import urllib.request
+from datetime import datetime, timedelta, timezone
 from http.server import BaseHTTPRequestHandler, HTTPServer
 from random import Random
 
@@ -36,6 +37,8 @@ PROGRAM = os.path.abspath(os.environ["NEW_ENEMY"])
 KILLS = int(os.environ.get("KILLS", "20"))
 UNIT = "new-enemy-monitor@.service"
 SECRET = "0123456789abcdef"
+# A day that does not end while tests run, and the one behind it.
+DAY, NEXT = ((datetime.now(timezone.utc) + timedelta(hours=hours)).strftime("%Y-%m-%d") for hours in (12, 36))
 BASE = write(0, base=True)
 PLACE = {"event": "place", "revision": 0}
 
@@ -55,7 +58,7 @@ def files_of(events, counts, service="openfga"):
     return files
 
 
-def timed(events, day="2026-11-26"):
+def timed(events, day=DAY):
     return [{**event, "time": "%sT10:%02d:%02dZ" % (day, place // 60, place % 60)} for place,
             event in enumerate(events)]
 
@@ -195,7 +198,7 @@ class Growing(Monitoring):
 
     def log_of_days(self):
         random = Random("days of a monitor")
-        first, second = (timed(events_of(random, 150), day) for day in ("2026-11-26", "2026-11-27"))
+        first, second = (timed(events_of(random, 150), day) for day in (DAY, NEXT))
         rise = max(event.get("revision", 0) for event in first)
         for event in second:
             for key in ("revision", "snapshot", "token"):
@@ -217,7 +220,7 @@ class Growing(Monitoring):
         self.assertEqual({one[:2] for one in self.days_told("out/days")}, wanted)
         self.assertEqual(sorted(os.listdir(self.path("out/days"))), ["day000001", "day000002", "index.html", "lock"])
         # A check of the first day that no commit had settled is told with the second.
-        self.assertEqual({row["time"][:10] for row in self.rows("out/days/day000001/report.jsonl")[1:]}, {"2026-11-26"})
+        self.assertEqual({row["time"][:10] for row in self.rows("out/days/day000001/report.jsonl")[1:]}, {DAY})
         for name in ("mail.txt", "report.html", "summary.json", "lines.json", "told"):
             self.assertTrue(os.path.exists(self.path("out/days/day000001/" + name)), name)
         explained = self.run_tool("explain", "--ids", "out/days/day000002/ids.jsonl", "out/days/day000001",
@@ -241,6 +244,38 @@ class Growing(Monitoring):
         run = self.run_tool("day", "--program", PROGRAM, "out/days", "events", *self.files())
         self.assertEqual(run.returncode, 2)
         self.assertIn("by ne monitor", run.stderr)
+
+    def sums_of(self, folder):
+        """What a day's summary counts. A run may end in the middle of a file, so it names no last one."""
+        found = json.loads(self.get(folder + "/summary.json"))
+        found["coverage"].pop("last_file", None)
+        return {key: found[key] for key in ("status", "entries", "findings", "not_audited", "held_over", "verdict",
+                                            "coverage", "looked")}
+
+    def test_a_day_that_ends_by_the_clock(self):
+        """Also where no line comes; its page, its sums and its trace are those of `ne day` over the same folder."""
+        day = (datetime.now(timezone.utc) - timedelta(hours=36)).strftime("%Y-%m-%d")
+        events = [RULES, BASE, PLACE, *timed(events_of(Random("nights"), 200), day), write(10 ** 6, rel("none"))]
+        self.put_log(files_of(events, [150]))
+        one = self.monitor("--html", "--zone", "Europe/Berlin")
+        self.wait_for(lambda: "run 1 has ended, since the day is over" in self.get("monitor.err"),
+                      lambda: self.get("monitor.err"))
+        run = self.run_tool("day", "--program", PROGRAM, "--jobs", "1", "--html", "byday", "events", *self.files())
+        self.assertEqual(run.returncode, 1, run.stderr)
+        self.assertGreater(len(self.days_told("byday")), 20)
+        self.assertEqual(self.days_told("out/days"), self.days_told("byday"))
+        self.assertEqual(*map(self.sums_of, ("out/days/day000001", "byday/day000001")))
+        self.assertEqual(*(sorted(name for name in os.listdir(self.path(folder + "/day000001"))
+                                  if name != "monitored.json") for folder in ("out/days", "byday")))
+        # What comes then is of the next run, which has a day of its own.
+        more = compact([{"event": "log", "number": 3, "before": hashlib.sha256(b"".join(self.get(
+            "log/000002.jsonl").encode().splitlines(True)[:-1])).hexdigest(), "service": "openfga"},
+            *timed([check(10 ** 6, True, rel("none")), check(10 ** 6, False, rel("none"))])])
+        self.put("log/000003.jsonl", more)
+        self.wait_for(lambda: any(row.get("from") == "log/000003.jsonl:3" for row in self.told()),
+                      lambda: self.get("monitor.err"))
+        self.stop(one)
+        self.assertEqual(self.get("monitor.err").count("has ended"), 1)
 
     def test_it_goes_on_in_the_next_file(self):
         """Where a run has ended with a file, the next one begins with the first line of the file behind it."""
@@ -366,8 +401,8 @@ class Receivers(Hooked):
         self.assertEqual([rows[0][key] for key in ("user", "object", "relation", "version", "from", "ignored_from",
                                                    "time", "ignored_since")], [
             "user:bob", "doc:plan", "viewer", "v2", "log/000001.jsonl:8", "log/000001.jsonl:6",
-                                                                               "2026-11-26T10:00:06Z",
-                                                                               "2026-11-26T10:00:04Z"])
+                                                                               DAY + "T10:00:06Z",
+                                                                               DAY + "T10:00:04Z"])
         self.assertIn("doc:plan#viewer@user:bob was removed", [event["text"] for event in rows[0]["story"]["events"]])
         self.assertEqual(server.are_signed, [True, True])
         # The story that goes on is told with its count, when the run ends.
@@ -387,7 +422,7 @@ class Receivers(Hooked):
         self.wait_for(lambda: len(self.told()) == 2)
         self.stop(one)
         again = self.told()[1]
-        self.assertEqual([again[key] for key in ("kind", "first", "count", "more", "until")], ["again", 1, 4, 3, "2026-11-26T10:00:08Z"])
+        self.assertEqual([again[key] for key in ("kind", "first", "count", "more", "until")], ["again", 1, 4, 3, DAY + "T10:00:08Z"])
 
     def test_a_webhook_that_is_not_there(self):
         """The alerts wait on the disk, and a later monitor tells them."""
@@ -520,10 +555,12 @@ class Metrics(Hooked):
         self.stop(one)
 
     def test_lag(self):
-        """A check above all commits waits for one, and is told to wait."""
-        events = [RULES, BASE, PLACE, write(5, rel()), check(7)]
-        self.put_log([files_of(timed(events), [], "spicedb")[0].rpartition(b'{"event":"closed"')[0]])
+        """A check above all commits waits for one, and is told to wait, also in the run behind it."""
+        events, day = [RULES, BASE, PLACE, write(5, rel()), check(7)], "2026-11-26"
+        self.put_log([files_of(timed(events, day), [], "spicedb")[0].rpartition(b'{"event":"closed"')[0]])
         one = self.monitor("--most-lag", "2", "--most-loss", "100")
+        # The day of the check is over.
+        self.wait_for(lambda: "run 1 has ended" in self.get("monitor.err"), lambda: self.get("monitor.err"))
         self.wait_for(lambda: self.told())
         self.assertEqual([(row["kind"], row["state"]) for row in self.told()], [("lag", "passed")])
         with open(self.path("log/000001.jsonl"), "ab") as file:

@@ -77,6 +77,20 @@ class Simulated(CoreCase):
         self.assertGreater(kinds["finding"], SEEDS)
         self.assertGreater(kinds["again"], SEEDS // 4)
 
+    def test_days_that_end_by_the_clock(self):
+        """Whenever no line comes for a day: the runs together have what the whole log has."""
+        runs = 0
+        for number in range(SEEDS // 3):
+            random, has_between = Random("nights of a monitor %d" % number), number % 2 == 1
+            log = log_of(random, has_between)
+            for kills in (0.0, 0.01):
+                told, kept, _ = told_by(lines_of(log), random, kills, has_between, nights=0.1)
+                self.assertEqual(by_finding(kept.counts), self.findings(log), number)
+                ids = [row["id"] for row in told["file"]]
+                self.assertEqual(len(set(ids)), len(ids), "told twice")
+                runs += len(kept.runs)
+        self.assertGreater(runs, SEEDS)
+
     def test_other_strata(self):
         """A tuple by which a relation stands on what it did not stand on before ends the run before it."""
         for number in range(6):

@@ -4,8 +4,8 @@
 
 LOG is the folder that `ne record` writes to, and OUT a folder of the monitor's own. Each story that matters is told
 once, as a line of JSON on standard output where no receiver is given, and to each receiver that is; it is told again
-with a count while it goes on. With the first reply of another day (UTC), or where the trace has --day-bytes, the run
-ends: OUT/days has a folder for each, as `ne day` makes them.
+with a count while it goes on. At midnight (--zone), or where the trace has --day-bytes, the run ends: OUT/days has a
+folder for each, as `ne day` makes them.
 
 It ends with status 0 at SIGTERM, and goes on where it was when it is started again, also after a kill. The status is 2
 where something is refused, which is told as an alert too, and 5 where a file or a program can't be used.
@@ -14,6 +14,7 @@ import argparse
 import os
 import sys
 from argparse import Namespace
+from datetime import tzinfo
 from typing import Iterator, Optional
 
 from new_enemy_tools import limits
@@ -26,6 +27,7 @@ from new_enemy_tools.monitoring.core import Settings
 from new_enemy_tools.monitoring.kept import options
 from new_enemy_tools.monitoring.machine import Machine, Way
 from new_enemy_tools.monitoring.marks import Mark
+from new_enemy_tools.monitoring.midnights import UTC, NoZone, zone_of
 from new_enemy_tools.monitoring.receivers import SYSLOG, Command, Output, Receiver, Syslog, Webhook
 from new_enemy_tools.recording.command import address_of, url_of
 from new_enemy_tools.shown import tell
@@ -41,6 +43,13 @@ def effects_of(text: str) -> frozenset[str]:
     if not words <= set(EFFECTS):
         raise argparse.ArgumentTypeError("%r are none of %s, with commas between them" % (text, ", ".join(EFFECTS)))
     return words
+
+
+def zone_named(text: str) -> tzinfo:
+    try:
+        return zone_of(text)
+    except NoZone as fault:
+        raise argparse.ArgumentTypeError(str(fault)) from None
 
 
 def given_of(words: list[str]) -> tuple[Parser, Namespace]:
@@ -91,6 +100,8 @@ def add_runs(parser: Parser) -> None:
                         "gap may still say why (30)")
     parser.add_argument("--day-bytes", type=int, default=MOST_BYTES // 2, metavar="N",
                         help="end a run where its trace has so many bytes (%d)" % (MOST_BYTES // 2))
+    parser.add_argument("--zone", type=zone_named, default=zone_of(UTC), metavar="ZONE",
+                        help="end a run at midnight in this time zone, as Europe/Berlin (UTC)")
     parser.add_argument("--html", action="store_true", help="write a page of each day, and an index of all")
     parser.add_argument("--keep-days", type=int, default=30, metavar="N", help="keep the traces of so many runs (30)")
     parser.add_argument("--keep-snapshots", type=int, default=1, metavar="RUNS",
@@ -141,7 +152,7 @@ def receivers_of(parser: Parser, given: Namespace) -> dict[str, Receiver]:
 def way_of(parser: Parser, given: Namespace) -> Way:
     receivers = receivers_of(parser, given)
     settings = Settings(tuple(receivers), given.effects, given.again, given.most_lag, given.most_loss,
-                        given.hold + 1.0, given.day_bytes)
+                        given.hold + 1.0, given.day_bytes, given.zone)
     metrics = None if given.metrics is None else address_of(parser, given.metrics, "--metrics")
     log = os.path.normpath(given.log)
     how = options(os.path.join(given.out, "days"), given.program, [log], given.html, given.keep_days,

@@ -8,12 +8,14 @@ the marks.
 """
 import json
 from collections import Counter
+from datetime import timezone, tzinfo
 from typing import Iterable, Iterator, Mapping, NamedTuple, Optional, Union
 
 from new_enemy_tools.coverage import Coverage
 from new_enemy_tools.monitoring.alerts import Alert, Known, Row, Stories, line_of
 from new_enemy_tools.monitoring.delivery import Delivery, Send
 from new_enemy_tools.monitoring.holding import Holding
+from new_enemy_tools.monitoring.midnights import midnight_after
 from new_enemy_tools.monitoring.run import Run
 from new_enemy_tools.monitoring.stream import Chunk, NewStrata
 from new_enemy_tools.telling import Telling
@@ -31,6 +33,8 @@ class Settings(NamedTuple):
     # so long a check of an unknown version is held
     hold: float = 31.0
     day_bytes: int = 1 << 28
+    # whose days the runs are
+    zone: tzinfo = timezone.utc
 
 
 class Feed(NamedTuple):
@@ -147,6 +151,20 @@ class Core:
             yield EndRun("relations need other strata" if self.holding.stop is not None else "the day is over")
         elif self.run.bytes >= self.settings.day_bytes and ready.chunks:
             yield EndRun("the run is full")
+
+    def pass_time(self, wall: int) -> Iterator[Out]:
+        """Ends the run where its day is over by the clock, in nanoseconds, and no check of that day is held; to be
+        called when all of the log was read."""
+        holding = self.holding
+        if not self.run.bytes:
+            return
+        if holding.midnight is None:
+            # There was no check.
+            holding.midnight = midnight_after(wall, self.settings.zone)
+        is_held = holding.oldest is not None and holding.oldest < holding.midnight.at
+        if wall - int(self.settings.hold * 1e9) >= holding.midnight.at and not is_held:
+            holding.midnight = midnight_after(wall, self.settings.zone)
+            yield EndRun("the day is over")
 
     def said(self, line: str, now: float) -> None:
         self.run.said(line, now)

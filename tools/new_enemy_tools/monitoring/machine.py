@@ -78,7 +78,7 @@ class Machine:
         number = 1 + (self.days.last or 0)
         if holding is None:
             self.tail = Tail(self.way.log, start.place)
-            holding = Holding(self.way.settings.hold, self.days.last is not None, stop)
+            holding = Holding(self.way.settings.hold, self.days.last is not None, stop, self.way.settings.zone)
         self.file = RunFile(self.days.work("trace"), start.begun.state.head.lines)
         self.follower = Follower(self.way.options.program, self.inbox)
         self.is_fed = False
@@ -126,6 +126,8 @@ class Machine:
             self._do(self.core.tell(now))
             self._do(self.core.due(now))
             self._look(now, is_more)
+            if not is_more and not self.way.is_once:
+                self._do(self.core.pass_time(time.time_ns()))
             if self.way.is_once and not is_more and not self.core.holding.lines:
                 if self.run.bytes:
                     self._end_run("the log ends")

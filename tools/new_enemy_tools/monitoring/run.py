@@ -59,6 +59,12 @@ class Piece(NamedTuple):
     last: int
 
 
+def held_over(state: State) -> list[Piece]:
+    """The checks that no run before has settled."""
+    found = [Piece(row.line, at, at) for row in state.rows if row.kind == "h" and (at := time_of(row.raw)) is not None]
+    return sorted(found)
+
+
 class Waiting(NamedTuple):
     finding: Finding
     until: float
@@ -81,7 +87,7 @@ class Run:
         # the trace's own bytes
         self.bytes = 0
         # what is not settled yet
-        self._pieces: deque[Piece] = deque()
+        self._pieces = deque(held_over(begun.state))
         self.newest: Optional[int] = None
         self._waiting: list[Waiting] = []
         self._is_fed = False
