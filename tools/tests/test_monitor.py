@@ -24,6 +24,7 @@ from random import Random
 from new_enemy_tools.commands.monitor import given_of
 from new_enemy_tools.monitoring.delivery import Send
 from new_enemy_tools.monitoring.receivers import Syslog
+from tests import test_joining
 from tests.ports import free_port
 from tests.recorded import Client, Recorded
 from tests.support import EXAMPLES, NE, TOP
@@ -160,6 +161,59 @@ class BesideSpiceDb(Monitoring, SpiceDbLoaded):
 
     def test_on_postgres(self):
         self.compare("--postgres")
+
+
+class BesideSeveral(Monitoring, OpenFgaLoaded):
+    """Over the logs of two recorders, with a third between these and the service."""
+
+    start_two, work = test_joining.Processes.start_two, test_joining.Processes.work
+
+    def several(self, *words):
+        return self.monitor("--hold", "30", *words, "left", log="right")
+
+    def test_it_tells_what_a_join_of_the_logs_tells(self):
+        """Also where it is killed, and begun again in the middle of a run or behind one."""
+        self.start_two("0.3")
+        one = self.several("--day-bytes", "20000")
+        self.run_clients(4, 40, self.work)
+        self.wait_for(lambda: self.told(), lambda: self.get("monitor.err"))
+        one.kill()
+        one.wait()
+        one = self.several("--day-bytes", "20000")
+        self.wait_for(lambda: self.get("monitor.err").count("reading left and right") == 2)
+        self.run_clients(4, 40, self.work)
+        for recorder, _ in self.two:
+            self.end(recorder)
+        self.end(self.between)
+        self.stop(one)
+        self.ends(self.several("--once"))
+        run = self.run_process("join", "--out", "all", "left", "right")
+        self.assertEqual((run.returncode, run.stderr), (0, ""))
+        self.import_log(folder="all")
+        joined = {(place, name.split()[0]) for place, names in self.found().items() for name in names}
+        self.assertEqual({one[:2] for one in self.days_told("out/days")}, joined)
+        self.assertGreater(len(joined), 10)
+        told = self.told()
+        self.assertEqual(len({row["id"] for row in told}), len(told), "told twice")
+        self.assertLessEqual({(row["from"], row["finding"]) for row in told if row["kind"] == "finding"}, joined)
+        self.assertGreater(len({row["file"].partition("/")[0] for row in told if row["kind"] == "finding"}), 1)
+        # What no run needs is not kept twice.
+        self.assertEqual(sum(name.endswith(".jsonl") for name in os.listdir(self.path("out/joined"))), 1)
+
+    def test_what_is_refused(self):
+        doc = rel("plan", "viewer", "bob")
+        self.put_log(files_of(timed([RULES, BASE, PLACE, write(5, doc), check(5, True, doc)]), []))
+        for words, said in ((("log",), "one LOG stands twice"), (("--ended", "log"), "--ended and --skew are of several logs"),
+                            (("--skew", "5"), "--ended and --skew are of several logs"),
+                            (("--ended", "other", "left"), "--ended other names no LOG")):
+            self.ends(self.monitor(*words), 3)
+            self.assertIn(said, self.get("monitor.err"))
+        os.mkdir(self.path("left"))
+        self.ends(self.monitor("--once", "left"), 2)
+        self.assertIn("log does not say which store it is of", self.get("monitor.err"))
+        self.ends(self.monitor("--once", out="single"))
+        self.ends(self.monitor("--once", "left", out="single"), 2)
+        self.assertIn("the runs before are of one log that was not joined", self.get("monitor.err"))
 
 
 class Growing(Monitoring):
@@ -582,8 +636,8 @@ class Examples(Monitoring):
         started = re.search(r"ExecStart=/usr/bin/new-enemy-tools monitor (.+)", text)[1].replace("%i", "x")
         shown = re.search(r"#   WORDS=(.+)", text)[1]
         _, given = given_of(started.replace("$WORDS", shown).split())
-        self.assertEqual((given.log, given.out, given.webhook, given.metrics), (
-            "/var/lib/private/new-enemy/x", "/var/lib/new-enemy-monitor/x", ["https://duty.example/alerts"],
+        self.assertEqual((given.logs, given.out, given.webhook, given.metrics), (
+            ["/var/lib/private/new-enemy/x"], "/var/lib/new-enemy-monitor/x", ["https://duty.example/alerts"],
                                                                                 "127.0.0.1:8092"))
 
     @unittest.skipUnless(shutil.which("systemd-analyze"), "there is no systemd-analyze")
@@ -597,7 +651,7 @@ class Examples(Monitoring):
         self.assertEqual([os.path.exists(os.path.join(TOP, word)) for word in copied], [True] * 3)
         started = json.loads(re.search("ENTRYPOINT (.+)", self.text("Containerfile"))[1])
         _, given = given_of([*started[3:], "--syslog"])
-        self.assertEqual((given.log, given.out), ("/log", "/watched"))
+        self.assertEqual((given.logs, given.out), (["/log"], "/watched"))
 
     def test_the_board_asks_for_what_there_is(self):
         """Each number of the board is one that the monitor gives, with the labels that the board names."""

@@ -1,8 +1,9 @@
 """Audits a recorder's log while it grows, and tells what is found within seconds (docs/MONITORING.md).
 
-    ne monitor [--webhook URL [--secret FILE]] [--command COMMAND] [--syslog] [--metrics ADDRESS] LOG OUT
+    ne monitor [--webhook URL [--secret FILE]] [--command COMMAND] [--syslog] [--metrics ADDRESS] LOG .. OUT
 
-LOG is the folder that `ne record` writes to, and OUT a folder of the monitor's own. Each story that matters is told
+LOG is the folder that `ne record` writes to, and OUT a folder of the monitor's own. The logs of several recorders of
+one service are joined. Each story that matters is told
 once, as a line of JSON on standard output where no receiver is given, and to each receiver that is; it is told again
 with a count while it goes on. At midnight (--zone), or where the trace has --day-bytes, the run ends: OUT/days has a
 folder for each, as `ne day` makes them.
@@ -18,12 +19,13 @@ from datetime import tzinfo
 from typing import Iterator, Optional
 
 from new_enemy_tools import limits
-from new_enemy_tools.commands.running import Parser, add_allowing, percent
+from new_enemy_tools.commands.running import Parser, add_allowing, add_skew, percent
 from new_enemy_tools.commands.window import PROGRAM
 from new_enemy_tools.effects import EFFECTS
 from new_enemy_tools.faults import DeviceFault, ToolFault
 from new_enemy_tools.files import read_bytes
 from new_enemy_tools.monitoring.core import Settings
+from new_enemy_tools.monitoring.joined import FOLDER, Several
 from new_enemy_tools.monitoring.kept import options
 from new_enemy_tools.monitoring.machine import Machine, Way
 from new_enemy_tools.monitoring.marks import Mark
@@ -56,7 +58,10 @@ def given_of(words: list[str]) -> tuple[Parser, Namespace]:
     parser = Parser(prog="ne monitor", description=__doc__)
     add_telling(parser)
     add_runs(parser)
-    parser.add_argument("log", metavar="LOG", help="the folder of a recorder's log")
+    add_skew(parser)
+    parser.add_argument("--ended", action="append", default=[], metavar="LOG",
+                        help="of several logs one whose recorder has ended for good, so that nothing waits for it")
+    parser.add_argument("logs", metavar="LOG", nargs="+", help="the folder of a recorder's log; several are joined")
     parser.add_argument("out", metavar="OUT", help="the monitor's folder")
     given = parser.parse_args(words)
     for name, least in (("again", 1), ("most_lag", 0), ("hold", 0), ("keep_days", 0), ("keep_snapshots", 0),
@@ -66,9 +71,23 @@ def given_of(words: list[str]) -> tuple[Parser, Namespace]:
             parser.error("--%s is below %d" % (name.replace("_", "-"), least))
     if not LEAST_BYTES <= given.day_bytes <= MOST_BYTES:
         parser.error("--day-bytes is from %d to %d" % (LEAST_BYTES, MOST_BYTES))
+    refuse_logs(parser, given)
     if given.secret is not None and not given.webhook:
         parser.error("--secret goes with --webhook")
     return parser, given
+
+
+def refuse_logs(parser: Parser, given: Namespace) -> None:
+    """Ends where the words on several logs don't go together."""
+    given.logs, given.ended = [[os.path.normpath(path) for path in paths] for paths in (given.logs, given.ended)]
+    if len(set(map(os.path.realpath, given.logs))) < len(given.logs):
+        parser.error("one LOG stands twice")
+    if len(given.logs) == 1 and (given.ended or given.skew != parser.get_default("skew")):
+        parser.error("--ended and --skew are of several logs that are joined; give their folders")
+    for folder in set(given.ended) - set(given.logs):
+        parser.error("--ended %s names no LOG" % folder)
+    if given.skew < 0:
+        parser.error("--skew is below 0")
 
 
 def add_telling(parser: Parser) -> None:
@@ -154,23 +173,26 @@ def way_of(parser: Parser, given: Namespace) -> Way:
     settings = Settings(tuple(receivers), given.effects, given.again, given.most_lag, given.most_loss,
                         given.hold + 1.0, given.day_bytes, given.zone)
     metrics = None if given.metrics is None else address_of(parser, given.metrics, "--metrics")
-    log = os.path.normpath(given.log)
-    how = options(os.path.join(given.out, "days"), given.program, [log], given.html, given.keep_days,
+    is_one = len(given.logs) == 1
+    log = given.logs[0] if is_one else os.path.join(given.out, FOLDER)
+    several = None if is_one else Several(tuple(given.logs), given.skew * 1_000_000, frozenset(given.ended))
+    how = options(os.path.join(given.out, "days"), given.program, given.logs, given.html, given.keep_days,
                   given.allow_unaudited,
                   given.keep_snapshots, given.keep_versions)
     marks = {name: mark_of(given, name) for name in receivers}
-    return Way(log, given.out, how, settings, receivers, marks, metrics, given.once)
+    return Way(log, several, given.out, how, settings, receivers, marks, metrics, given.once)
 
 
 def main(words: list[str]) -> int:
     parser, given = given_of(words)
     way = way_of(parser, given)
-    if not os.path.isdir(way.log):
-        raise DeviceFault("cannot open %s: it is no folder; give that of a recorder's log (ne record --out)" % way.log)
-    return ran(Machine(way), way)
+    missing = [log for log in given.logs if not os.path.isdir(log)]
+    if missing and (way.several is None or len(missing) == len(given.logs)):
+        raise DeviceFault("cannot open %s: it is no folder; give that of a recorder's log (ne record --out)" % missing[0])
+    return ran(Machine(way), way, " and ".join(given.logs))
 
 
-def ran(machine: Machine, way: Way) -> int:
+def ran(machine: Machine, way: Way, logs: str) -> int:
     """The status of a monitor that has stopped; why it can't go on is told as an alert, too."""
     fault: Optional[str] = None
     status = 0
@@ -178,7 +200,7 @@ def ran(machine: Machine, way: Way) -> int:
         machine.serve()
         machine.hear_signals()
         machine.begin()
-        tell("monitor: reading %s, and keeping %s" % (way.log, way.folder), sys.stderr)
+        tell("monitor: reading %s, and keeping %s" % (logs, way.folder), sys.stderr)
         machine.live()
     except ToolFault as ended:
         fault, status = str(ended), ended.status

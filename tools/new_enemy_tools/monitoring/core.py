@@ -65,6 +65,16 @@ class BeginAnew(NamedTuple):
 Out = Union[Feed, Keep, Send, EndRun, BeginAnew]
 
 
+class Unjoined(NamedTuple):
+    """The checks that wait for the logs of other recorders: how many, when the first had its reply, and the logs that
+    are waited for; and the logs that have no base state so far."""
+
+    checks: int = 0
+    oldest: Optional[int] = None
+    logs: tuple[str, ...] = ()
+    unbegun: tuple[str, ...] = ()
+
+
 class Left(NamedTuple):
     """What a run leaves to the next beside the import and the state: its stories, and findings on entries that the
     next run has too."""
@@ -84,7 +94,7 @@ class Core:
         self.counts: Counter[tuple[str, str]] = Counter()
         self.ended: Counter[tuple[str, str]] = Counter()
         self.alerts: Counter[str] = Counter()
-        self.gaps = 0
+        self.unjoined = Unjoined()
         # bounds that are passed now
         self.passed: dict[str, bool] = {"lag": False, "loss": False}
         # why the monitor before this one stopped, until this one has come to the end of the log
@@ -202,11 +212,15 @@ class Core:
             yield from self._stop("ended", "the monitor audits again", None)
         lag, coverage = self.lag(wall), self.coverage()
         yield from self._bound("lag", lag, self.settings.most_lag,
-                               "a reply of %.1f seconds ago is not audited yet" % lag)
+                               "a reply of %.1f seconds ago is not audited yet%s" % (lag, self._waits_for()))
         loss = 0.0 if coverage.is_empty or coverage.is_whole else coverage._replace(open=0).percent
         yield from self._bound("loss", loss, self.settings.most_loss,
                                "%s; that is %.2f percent that was not looked at whole" % (
             coverage.said_counts, loss))
+
+    def _waits_for(self) -> str:
+        checks, logs = self.unjoined.checks, self.unjoined.logs
+        return "; %d wait for %s" % (checks, " and ".join(logs)) if checks else ""
 
     def _bound(self, name: str, value: float, most: float, said: str) -> Iterator[Out]:
         """An alert where a bound is passed, and one when the value is at half of it again."""
@@ -249,7 +263,7 @@ class Core:
 
     def lag(self, wall: int) -> float:
         """For how many seconds the oldest reply has waited that was read, and is not settled."""
-        times = [time for time in (self.run.oldest, self.holding.oldest) if time is not None]
+        times = [time for time in (self.run.oldest, self.holding.oldest, self.unjoined.oldest) if time is not None]
         return max(0.0, (wall - min(times)) / 1e9) if times else 0.0
 
     def coverage(self) -> Coverage:

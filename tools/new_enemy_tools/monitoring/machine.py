@@ -16,6 +16,7 @@ from new_enemy_tools.monitoring.faults import MonitorFault
 from new_enemy_tools.monitoring.follower import Ended, Follower, Said
 from new_enemy_tools.monitoring.holding import Holding
 from new_enemy_tools.monitoring.journal import Journal
+from new_enemy_tools.monitoring.joined import STATE, JoinedLog, Several
 from new_enemy_tools.monitoring.kept import RunFile, keep, start_of
 from new_enemy_tools.monitoring.marks import Mark
 from new_enemy_tools.monitoring.numbers import Before, exposition
@@ -23,6 +24,7 @@ from new_enemy_tools.monitoring.receivers import Answered, Receiver, Teller
 from new_enemy_tools.monitoring.run import Run
 from new_enemy_tools.monitoring.tail import Tail
 from new_enemy_tools.recording.metrics import MetricsServer
+from new_enemy_tools.recording.sketches import JOINED
 from new_enemy_tools.shown import tell
 from new_enemy_tools.windowing import carrying
 from new_enemy_tools.windowing.days import Days
@@ -37,7 +39,9 @@ WORDS = ("auditing", "not auditing as it should; see /metrics")
 class Way(NamedTuple):
     """Where a monitor works, and how."""
 
+    # the folder of a log; with several of these, of the joined one
     log: str
+    several: Optional[Several]
     folder: str
     options: Namespace
     settings: Settings
@@ -64,6 +68,12 @@ class Machine:
         self.shown, self.is_well = "", False
         self.tail: Optional[Tail] = None
         self.follower: Optional[Follower] = None
+        self.joined: Optional[JoinedLog] = None
+        if way.several is not None:
+            self.joined = JoinedLog(way.folder, way.several, way.settings.hold, self.days.last is None)
+        elif os.path.exists(os.path.join(way.folder, STATE)):
+            raise MonitorFault("the runs before are of several logs that were joined; give them all, or another folder "
+                               "of the monitor")
 
     # Runs
 
@@ -89,7 +99,7 @@ class Machine:
         """Whether checks may have looked at any state between two; of a log that is not there yet that is not known,
         and taken to be so."""
         assert self.tail is not None
-        return self.tail.first_service() != "spicedb"
+        return (self.tail.first_service() or "").removeprefix(JOINED) != "spicedb"
 
     def _end_run(self, why: str) -> None:
         given, run, now = self.way.options, self.run, time.monotonic()
@@ -104,9 +114,13 @@ class Machine:
         line = self.core.holding.lines[0] if self.core.holding.lines else None
         place = self.tail.here() if line is None else self.tail.place_at(line.file, line.number)
         self.before = self.before.plus(self.core)
+        if self.joined is not None:
+            self.joined.keep()
         number = keep(self.days, given, run, carry, status, self.core.leave(), place, self.file)
         self.days.mark_told(number)
         self.tail.forget(place.file)
+        if self.joined is not None:
+            self.joined.forget(place.file)
         tell("monitor: run %d has ended, since %s; %s" % (number, why, self.days.tell(number).splitlines()[-1]),
              sys.stderr)
         self.journal.replace(self.core.kept_rows())
@@ -136,10 +150,14 @@ class Machine:
     def _read(self) -> bool:
         """Reads more of the log; whether there may be more still."""
         assert self.tail is not None
+        is_more = False
+        if self.joined is not None:
+            is_more = self.joined.read(self.way.is_once)
+            self.core.unjoined = self.joined.unjoined()
         while self.core.has_room:
             chunk = self.tail.read()
             if chunk is None:
-                return False
+                return is_more
             self.core.read(chunk, time.monotonic())
         return True
 
