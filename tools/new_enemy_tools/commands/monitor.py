@@ -72,6 +72,8 @@ def given_of(words: list[str]) -> tuple[Parser, Namespace]:
     if not LEAST_BYTES <= given.day_bytes <= MOST_BYTES:
         parser.error("--day-bytes is from %d to %d" % (LEAST_BYTES, MOST_BYTES))
     refuse_logs(parser, given)
+    if given.page and given.metrics is None:
+        parser.error("--page goes with --metrics")
     if given.secret is not None and not given.webhook:
         parser.error("--secret goes with --webhook")
     return parser, given
@@ -106,6 +108,8 @@ def add_telling(parser: Parser) -> None:
                         help="how often at most a story that goes on is told again (600)")
     parser.add_argument("--metrics", metavar="ADDRESS",
                         help="where /health and /metrics are answered, as 127.0.0.1:8092")
+    parser.add_argument("--page", action="store_true",
+                        help="answer a page there too, at /; it names users and what they asked for")
     parser.add_argument("--most-lag", type=float, default=60.0, metavar="SECONDS",
                         help="an alert where a reply waits longer for its audit (60)")
     parser.add_argument("--most-loss", type=percent, default=1.0, metavar="PERCENT",
@@ -180,7 +184,7 @@ def way_of(parser: Parser, given: Namespace) -> Way:
                   given.allow_unaudited,
                   given.keep_snapshots, given.keep_versions)
     marks = {name: mark_of(given, name) for name in receivers}
-    return Way(log, several, given.out, how, settings, receivers, marks, metrics, given.once)
+    return Way(log, " and ".join(given.logs), several, given.out, how, settings, receivers, marks, metrics, given.page, given.once)
 
 
 def main(words: list[str]) -> int:
@@ -189,10 +193,10 @@ def main(words: list[str]) -> int:
     missing = [log for log in given.logs if not os.path.isdir(log)]
     if missing and (way.several is None or len(missing) == len(given.logs)):
         raise DeviceFault("cannot open %s: it is no folder; give that of a recorder's log (ne record --out)" % missing[0])
-    return ran(Machine(way), way, " and ".join(given.logs))
+    return ran(Machine(way), way)
 
 
-def ran(machine: Machine, way: Way, logs: str) -> int:
+def ran(machine: Machine, way: Way) -> int:
     """The status of a monitor that has stopped; why it can't go on is told as an alert, too."""
     fault: Optional[str] = None
     status = 0
@@ -200,7 +204,7 @@ def ran(machine: Machine, way: Way, logs: str) -> int:
         machine.serve()
         machine.hear_signals()
         machine.begin()
-        tell("monitor: reading %s, and keeping %s" % (logs, way.folder), sys.stderr)
+        tell("monitor: reading %s, and keeping %s" % (way.logs, way.folder), sys.stderr)
         machine.live()
     except ToolFault as ended:
         fault, status = str(ended), ended.status

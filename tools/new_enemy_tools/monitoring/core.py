@@ -7,7 +7,7 @@ was marked. A run that begins anew is given the lines of the log since the run's
 the marks.
 """
 import json
-from collections import Counter
+from collections import Counter, deque
 from datetime import timezone, tzinfo
 from typing import Iterable, Iterator, Mapping, NamedTuple, Optional, Union
 
@@ -62,6 +62,9 @@ class BeginAnew(NamedTuple):
     stop: tuple[str, int]
 
 
+# So many alerts are shown.
+RECENT = 100
+
 Out = Union[Feed, Keep, Send, EndRun, BeginAnew]
 
 
@@ -95,6 +98,8 @@ class Core:
         self.ended: Counter[tuple[str, str]] = Counter()
         self.alerts: Counter[str] = Counter()
         self.unjoined = Unjoined()
+        # the last alerts, for who looks
+        self.recent: deque[Row] = deque((), RECENT)
         # bounds that are passed now
         self.passed: dict[str, bool] = {"lag": False, "loss": False}
         # why the monitor before this one stopped, until this one has come to the end of the log
@@ -109,6 +114,7 @@ class Core:
         for row in rows:
             self.next = max(self.next, row.get("next", 0), row.get("alert", 0) + 1)
             self._note(row)
+            self.recent.extend([row["text"]] * ("alert" in row))
             for receiver in row.get("to", ()):
                 if row["alert"] > marks.get(receiver, 0):
                     self.delivery.put(Send(receiver, row["alert"], line_of(row["text"])))
@@ -250,6 +256,7 @@ class Core:
             row: Row = {"alert": alert.number, "run": self.number, "story": alert.story,
                         "to": list(self.settings.receivers), "text": alert.text}
             self._note(row)
+            self.recent.append(alert.text)
             yield Keep(row)
             for receiver in self.settings.receivers:
                 self.delivery.put(Send(receiver, alert.number, line_of(alert.text)))

@@ -20,6 +20,7 @@ from new_enemy_tools.monitoring.joined import STATE, JoinedLog, Several
 from new_enemy_tools.monitoring.kept import RunFile, keep, start_of
 from new_enemy_tools.monitoring.marks import Mark
 from new_enemy_tools.monitoring.numbers import Before, exposition
+from new_enemy_tools.monitoring.page import SILENT, Live, live_of, page_of
 from new_enemy_tools.monitoring.receivers import Answered, Receiver, Teller
 from new_enemy_tools.monitoring.run import Run
 from new_enemy_tools.monitoring.tail import Tail
@@ -41,6 +42,8 @@ class Way(NamedTuple):
 
     # the folder of a log; with several of these, of the joined one
     log: str
+    # the folders as they were given
+    logs: str
     several: Optional[Several]
     folder: str
     options: Namespace
@@ -49,6 +52,7 @@ class Way(NamedTuple):
     # by the names of the receivers
     marks: dict[str, Mark]
     metrics: Optional[tuple[str, int]]
+    has_page: bool = False
     # whether it ends where the log does
     is_once: bool = False
 
@@ -66,6 +70,7 @@ class Machine:
         self.is_stopping = self.is_caught_up = False
         self.began = self.looked = time.monotonic()
         self.shown, self.is_well = "", False
+        self.live_page: Optional[Live] = None
         self.tail: Optional[Tail] = None
         self.follower: Optional[Follower] = None
         self.joined: Optional[JoinedLog] = None
@@ -220,6 +225,7 @@ class Machine:
         self.journal.sync()
         self.shown = exposition(self.core, self.before, wall, self.is_caught_up)
         self.is_well = self.is_caught_up and not any(self.core.passed.values())
+        self.live_page = live_of(self.core, self.before, self.way.logs, wall, self.is_caught_up)
 
     # The end
 
@@ -249,12 +255,21 @@ class Machine:
         """Answers on the address of the metrics, in a thread of its own; raises DeviceFault where it can't."""
         if self.way.metrics is None:
             return
-        server, loop = MetricsServer(lambda: self.is_well, lambda: self.shown, WORDS), asyncio.new_event_loop()
+        server = MetricsServer(lambda: self.is_well and self._age() < SILENT, lambda: self.shown, WORDS,
+                               self._page if self.way.has_page else None)
+        loop = asyncio.new_event_loop()
         try:
             loop.run_until_complete(server.serve(*self.way.metrics))
         except OSError as fault:
             raise DeviceFault("cannot listen at %s:%d: %s" % (*self.way.metrics, fault.strerror)) from None
         Thread(target=loop.run_forever, daemon=True).start()
+
+    def _age(self) -> float:
+        """For how many seconds it has not looked."""
+        return time.monotonic() - self.looked
+
+    def _page(self) -> str:
+        return "The monitor begins.\n" if self.live_page is None else page_of(self.live_page, self._age())
 
     def hear_signals(self) -> None:
         def stop(*_: object) -> None:

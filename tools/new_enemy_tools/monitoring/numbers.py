@@ -2,6 +2,7 @@
 from collections import Counter
 from typing import Any, Mapping, NamedTuple
 
+from new_enemy_tools.looked import Looked
 from new_enemy_tools.monitoring.core import Core
 from new_enemy_tools.recording.metrics import family
 
@@ -16,13 +17,14 @@ class Before(NamedTuple):
     in_part: Mapping[str, int] = {}
     lost: Mapping[str, int] = {}
     gaps: int = 0
+    looked: Looked = Looked(0, 0, 0)
 
     def plus(self, core: Core) -> "Before":
         """With those of the run that goes on."""
         coverage = core.coverage()
         return Before(self.entries + core.run.entries, _sum(self.not_audited, coverage.not_audited),
                       _sum(self.in_part, coverage.in_part), _sum(self.lost, coverage.lost),
-                      self.gaps + coverage.uncounted)
+                      self.gaps + coverage.uncounted, self.looked.plus(core.run.counts.looked))
 
 
 def _sum(one: Mapping[str, int], other: Mapping[str, int]) -> dict[str, int]:
