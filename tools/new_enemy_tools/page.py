@@ -69,12 +69,14 @@ def _hash(text: str) -> str:
     return "'sha256-%s'" % base64.b64encode(hashlib.sha256(text.encode()).digest()).decode()
 
 
-def head(title: str, style: str, script: str) -> Iterator[str]:
-    """The head of a page that asks for nothing from elsewhere, and runs no other script."""
+def head(title: str, style: str, script: str, again: int = 0) -> Iterator[str]:
+    """The head of a page that asks for nothing from elsewhere, and runs no other script; it is looked at again after so many seconds."""
     policy = "default-src 'none'; style-src %s; script-src %s" % (_hash(style), _hash(script))
     yield '<!DOCTYPE html><html lang="en"><head><meta charset="utf-8">'
     yield '<meta http-equiv="Content-Security-Policy" content="%s">' % policy
     yield '<meta name="viewport" content="width=device-width, initial-scale=1">'
+    if again:
+        yield '<meta http-equiv="refresh" content="%d">' % again
     yield "<title>%s</title>" % title
     yield "<style>%s</style></head>" % style
 

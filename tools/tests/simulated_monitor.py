@@ -63,30 +63,34 @@ class Disk:
     """What is there when a monitor begins: rows, and of each run that was kept what the next one goes on from."""
 
     def __init__(self):
-        self.rows = []
+        self.rows, self.marks = [], {}
         self.runs = [(Begun(None, NOTHING, Ids()), Left({}, []), 0)]
         self.counts, self.entries = Counter(), 0
 
 
 class Receiver:
-    def __init__(self, random, share):
-        self.random, self.share, self.got = random, share, []
+    """One that `is_asked` knows what it has, as a file does."""
+
+    def __init__(self, random, share, is_asked):
+        self.random, self.share, self.is_asked, self.got = random, share, is_asked, []
 
     def take(self, send):
         """What it answers; it may have the alert although it says that it has not."""
-        is_down = self.random.random() < self.share
+        is_down, row = self.random.random() < self.share, json.loads(send.text)
+        if self.is_asked and row in self.got[-1:]:
+            return None
         if not is_down or self.random.random() < 0.5:
-            self.got.append(json.loads(send.text))
+            self.got.append(row)
         return "it is down" if is_down else None
 
 
 class Life:
     """One life of a monitor, over the lines of a log, until it has read all or is killed."""
 
-    def __init__(self, lines, disk, receivers, random, kills, has_between, settings):
+    def __init__(self, lines, disk, receivers, random, kills, has_between, settings, nights=0.0):
         self.lines, self.disk, self.receivers, self.random, self.kills = lines, disk, receivers, random, kills
-        self.has_between, self.now = has_between, 0.0
-        self.core = Core(settings, disk.rows)
+        self.has_between, self.now, self.nights = has_between, 0.0, nights
+        self.core = Core(settings, disk.rows, disk.marks)
         self.begin(None)
 
     def begin(self, holding, stop=None):
@@ -116,7 +120,10 @@ class Life:
             elif isinstance(out, Send):
                 answer = self.receivers[out.receiver].take(out)
                 self.step()
-                self.do(self.core.answered(out.receiver, out.number, answer, self.now))
+                if answer is None:
+                    self.disk.marks[out.receiver] = out.number
+                self.step()
+                self.core.answered(out.receiver, out.number, answer, self.now)
             elif isinstance(out, EndRun):
                 self.end()
             elif isinstance(out, BeginAnew):
@@ -156,6 +163,9 @@ class Life:
             self.do(self.core.move(self.now))
             self.do(self.core.tell(self.now))
             self.do(self.core.due(self.now))
+            if self.random.random() < self.nights:
+                # No line comes for a day.
+                self.do(self.core.pass_time(self.core.holding.midnight.at + 10 ** 9 if self.core.holding.midnight else 0))
         if self.run.bytes:
             self.end()
         while not self.core.delivery.is_idle:
@@ -171,15 +181,16 @@ def json_left(left):
                 [(source, finding) for source, finding in read["held"]])
 
 
-def told_by(lines, random, kills, has_between, lives=200):
+def told_by(lines, random, kills, has_between, nights=0.0, lives=200):
     """The alerts that each receiver got, and what was counted, of a monitor that is begun again when it
-    is killed; and how often it was."""
-    disk, settings = Disk(), Settings(("one", "two"), again=float("inf"), hold=0.0,
+    is killed; and how often it was. So often a day ends by the clock."""
+    disk, settings = Disk(), Settings(("one", "two", "file"), again=float("inf"), hold=0.0,
                                       effects=frozenset(("wrong", "changed", "undecided", "possible", "none")))
-    receivers = {"one": Receiver(random, 0.3 if kills else 0.0), "two": Receiver(random, 0.0)}
+    receivers = {"one": Receiver(random, 0.3 if kills else 0.0, False), "two": Receiver(random, 0.0, False),
+                 "file": Receiver(random, 0.3 if kills else 0.0, True)}
     for life in range(lives + 1):
         try:
-            Life(lines, disk, receivers, random, kills if life < lives else 0.0, has_between, settings).live()
+            Life(lines, disk, receivers, random, kills if life < lives else 0.0, has_between, settings, nights).live()
             return {name: one.got for name, one in receivers.items()}, disk, life
         except Killed:
             pass

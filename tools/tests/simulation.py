@@ -19,9 +19,11 @@ from new_enemy_tools.importing.openfga import ModelReader
 from new_enemy_tools.importing.refusals import Refusals
 from new_enemy_tools.importing.times import nanoseconds
 from new_enemy_tools.recording.core import Core, Now
+from new_enemy_tools.recording import days_joined
 from new_enemy_tools.recording.days_joined import LATE, Before, join_day
 from new_enemy_tools.recording.joining import UNKNOWN, Join
 from new_enemy_tools.recording.lines import time_text
+from new_enemy_tools.recording.live_joined import LiveJoin
 from new_enemy_tools.recording.messages import Beat, Bye, Ended, Started
 from new_enemy_tools.recording.openfga import Base, Changes, OpenFga
 from new_enemy_tools.recording.overlap import Change, Overlap
@@ -530,6 +532,32 @@ class Daily(Crowd):
         return [one for recorder in self.all for one in recorder.checks], [row for lines, _ in self.days for row in lines]
 
 
+class Live(Crowd):
+    """The same, whose logs are joined while they grow: at many times, some lines of each, and at some it is begun again."""
+
+    def everything(self):
+        random, closed, over, self.days, self.begun = self.random, {}, set(), [], 1
+        names = ["log%d" % number for number in range(len(self.all))]
+        rows = {name: [*given_of(name, one.lines).rows(), Row(name, 0, {"event": "closed"})] for name, one in zip(names, self.all)}
+        join = LiveJoin(names, 0, 1e9)
+        for at in [*sorted(random.randint(0, self.now) for _ in range(random.randint(2, 12))), self.now]:
+            if random.random() < 0.2:
+                join, self.begun = LiveJoin(names, 0, 1e9, join.before, sorted(join.told)), self.begun + 1
+            for name, recorder in zip(names, self.all):
+                count = bisect_right(recorder.drained_at, at)
+                some = random.randint(closed.get(name, 0), count) if at < self.now else len(recorder.lines)
+                base = next((place for place, lines in enumerate(recorder.lines[:count], 1) if b'"event":"place"' in lines), 0)
+                closed[name] = max(some, base)
+                have = 1 + sum(lines.count(b"\n") for lines in recorder.lines[:closed[name]]) + (at == self.now)
+                for row in rows[name][join.logs[name].count:have]:
+                    join.take(name, row, 1, 0.0)
+                if at == self.now or recorder in self.over and closed[name] == len(recorder.lines) and random.random() < 0.5:
+                    over.add(name)
+            lines = join.round(over, 0.0)
+            self.days.append((lines, days_joined.Waiting(join.waiting, [])))
+        return [one for recorder in self.all for one in recorder.checks], [row for lines, _ in self.days for row in lines]
+
+
 def given_of(name, lines, service="openfga"):
     """A log as a join takes it."""
     head = {"event": "log", "number": 1, "service": service}
@@ -733,6 +761,14 @@ def run_crowd(seed, count=None, **values):
 def run_days(seed, **values):
     """The faults of one run with several recorders, whose logs are joined day by day."""
     world = Daily(seed, Random(seed).choice((1, 2, 2, 3)))
+    for name, value in {"shows": True, **values}.items():
+        setattr(world.shape, name, value)
+    return world, OfDays(world.run())
+
+
+def run_live(seed, **values):
+    """The faults of one run with several recorders, whose logs are joined while they grow."""
+    world = Live(seed, Random(seed).choice((1, 2, 2, 3)))
     for name, value in {"shows": True, **values}.items():
         setattr(world.shape, name, value)
     return world, OfDays(world.run())

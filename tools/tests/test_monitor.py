@@ -17,11 +17,14 @@ import time
 import unittest
 import urllib.error
 import urllib.request
+from datetime import datetime, timedelta, timezone
 from http.server import BaseHTTPRequestHandler, HTTPServer
 from random import Random
 
 from new_enemy_tools.commands.monitor import given_of
+from new_enemy_tools.monitoring.delivery import Send
 from new_enemy_tools.monitoring.receivers import Syslog
+from tests import test_joining
 from tests.ports import free_port
 from tests.recorded import Client, Recorded
 from tests.support import EXAMPLES, NE, TOP
@@ -35,6 +38,8 @@ PROGRAM = os.path.abspath(os.environ["NEW_ENEMY"])
 KILLS = int(os.environ.get("KILLS", "20"))
 UNIT = "new-enemy-monitor@.service"
 SECRET = "0123456789abcdef"
+# A day that does not end while tests run, and the one behind it.
+DAY, NEXT = ((datetime.now(timezone.utc) + timedelta(hours=hours)).strftime("%Y-%m-%d") for hours in (12, 36))
 BASE = write(0, base=True)
 PLACE = {"event": "place", "revision": 0}
 
@@ -54,7 +59,7 @@ def files_of(events, counts, service="openfga"):
     return files
 
 
-def timed(events, day="2026-11-26"):
+def timed(events, day=DAY):
     return [{**event, "time": "%sT10:%02d:%02dZ" % (day, place // 60, place % 60)} for place,
             event in enumerate(events)]
 
@@ -158,6 +163,59 @@ class BesideSpiceDb(Monitoring, SpiceDbLoaded):
         self.compare("--postgres")
 
 
+class BesideSeveral(Monitoring, OpenFgaLoaded):
+    """Over the logs of two recorders, with a third between these and the service."""
+
+    start_two, work = test_joining.Processes.start_two, test_joining.Processes.work
+
+    def several(self, *words):
+        return self.monitor("--hold", "30", *words, "left", log="right")
+
+    def test_it_tells_what_a_join_of_the_logs_tells(self):
+        """Also where it is killed, and begun again in the middle of a run or behind one."""
+        self.start_two("0.3")
+        one = self.several("--day-bytes", "20000")
+        self.run_clients(4, 40, self.work)
+        self.wait_for(lambda: self.told(), lambda: self.get("monitor.err"))
+        one.kill()
+        one.wait()
+        one = self.several("--day-bytes", "20000")
+        self.wait_for(lambda: self.get("monitor.err").count("reading left and right") == 2)
+        self.run_clients(4, 40, self.work)
+        for recorder, _ in self.two:
+            self.end(recorder)
+        self.end(self.between)
+        self.stop(one)
+        self.ends(self.several("--once"))
+        run = self.run_process("join", "--out", "all", "left", "right")
+        self.assertEqual((run.returncode, run.stderr), (0, ""))
+        self.import_log(folder="all")
+        joined = {(place, name.split()[0]) for place, names in self.found().items() for name in names}
+        self.assertEqual({one[:2] for one in self.days_told("out/days")}, joined)
+        self.assertGreater(len(joined), 10)
+        told = self.told()
+        self.assertEqual(len({row["id"] for row in told}), len(told), "told twice")
+        self.assertLessEqual({(row["from"], row["finding"]) for row in told if row["kind"] == "finding"}, joined)
+        self.assertGreater(len({row["file"].partition("/")[0] for row in told if row["kind"] == "finding"}), 1)
+        # What no run needs is not kept twice.
+        self.assertEqual(sum(name.endswith(".jsonl") for name in os.listdir(self.path("out/joined"))), 1)
+
+    def test_what_is_refused(self):
+        doc = rel("plan", "viewer", "bob")
+        self.put_log(files_of(timed([RULES, BASE, PLACE, write(5, doc), check(5, True, doc)]), []))
+        for words, said in ((("log",), "one LOG stands twice"), (("--ended", "log"), "--ended and --skew are of several logs"),
+                            (("--skew", "5"), "--ended and --skew are of several logs"),
+                            (("--ended", "other", "left"), "--ended other names no LOG")):
+            self.ends(self.monitor(*words), 3)
+            self.assertIn(said, self.get("monitor.err"))
+        os.mkdir(self.path("left"))
+        self.ends(self.monitor("--once", "left"), 2)
+        self.assertIn("log does not say which store it is of", self.get("monitor.err"))
+        self.ends(self.monitor("--once", out="single"))
+        self.ends(self.monitor("--once", "left", out="single"), 2)
+        self.assertIn("the runs before are of one log that was not joined", self.get("monitor.err"))
+
+
 class Growing(Monitoring):
     """Over logs that grow as this writes them."""
 
@@ -182,8 +240,7 @@ class Growing(Monitoring):
             one.kill()
             one.wait()
         self.ends(self.monitor("--once"))
-        # What was under way when it was killed may come again, with its id.
-        self.assertLessEqual(len(self.told()) - len({row["id"] for row in self.told()}), KILLS)
+        self.assertEqual(len(self.told()), len({row["id"] for row in self.told()}), "told twice")
         wanted, told = ({row["id"]: row for row in self.told(name)} for name in ("wanted", "told"))
         self.assertGreater(len(wanted), 20)
         self.assertEqual({key for key in told if "-" not in key}, {key for key in wanted if "-" not in key})
@@ -195,7 +252,7 @@ class Growing(Monitoring):
 
     def log_of_days(self):
         random = Random("days of a monitor")
-        first, second = (timed(events_of(random, 150), day) for day in ("2026-11-26", "2026-11-27"))
+        first, second = (timed(events_of(random, 150), day) for day in (DAY, NEXT))
         rise = max(event.get("revision", 0) for event in first)
         for event in second:
             for key in ("revision", "snapshot", "token"):
@@ -217,7 +274,7 @@ class Growing(Monitoring):
         self.assertEqual({one[:2] for one in self.days_told("out/days")}, wanted)
         self.assertEqual(sorted(os.listdir(self.path("out/days"))), ["day000001", "day000002", "index.html", "lock"])
         # A check of the first day that no commit had settled is told with the second.
-        self.assertEqual({row["time"][:10] for row in self.rows("out/days/day000001/report.jsonl")[1:]}, {"2026-11-26"})
+        self.assertEqual({row["time"][:10] for row in self.rows("out/days/day000001/report.jsonl")[1:]}, {DAY})
         for name in ("mail.txt", "report.html", "summary.json", "lines.json", "told"):
             self.assertTrue(os.path.exists(self.path("out/days/day000001/" + name)), name)
         explained = self.run_tool("explain", "--ids", "out/days/day000002/ids.jsonl", "out/days/day000001",
@@ -241,6 +298,38 @@ class Growing(Monitoring):
         run = self.run_tool("day", "--program", PROGRAM, "out/days", "events", *self.files())
         self.assertEqual(run.returncode, 2)
         self.assertIn("by ne monitor", run.stderr)
+
+    def sums_of(self, folder):
+        """What a day's summary counts. A run may end in the middle of a file, so it names no last one."""
+        found = json.loads(self.get(folder + "/summary.json"))
+        found["coverage"].pop("last_file", None)
+        return {key: found[key] for key in ("status", "entries", "findings", "not_audited", "held_over", "verdict",
+                                            "coverage", "looked")}
+
+    def test_a_day_that_ends_by_the_clock(self):
+        """Also where no line comes; its page, its sums and its trace are those of `ne day` over the same folder."""
+        day = (datetime.now(timezone.utc) - timedelta(hours=36)).strftime("%Y-%m-%d")
+        events = [RULES, BASE, PLACE, *timed(events_of(Random("nights"), 200), day), write(10 ** 6, rel("none"))]
+        self.put_log(files_of(events, [150]))
+        one = self.monitor("--html", "--zone", "Europe/Berlin")
+        self.wait_for(lambda: "run 1 has ended, since the day is over" in self.get("monitor.err"),
+                      lambda: self.get("monitor.err"))
+        run = self.run_tool("day", "--program", PROGRAM, "--jobs", "1", "--html", "byday", "events", *self.files())
+        self.assertEqual(run.returncode, 1, run.stderr)
+        self.assertGreater(len(self.days_told("byday")), 20)
+        self.assertEqual(self.days_told("out/days"), self.days_told("byday"))
+        self.assertEqual(*map(self.sums_of, ("out/days/day000001", "byday/day000001")))
+        self.assertEqual(*(sorted(name for name in os.listdir(self.path(folder + "/day000001"))
+                                  if name != "monitored.json") for folder in ("out/days", "byday")))
+        # What comes then is of the next run, which has a day of its own.
+        more = compact([{"event": "log", "number": 3, "before": hashlib.sha256(b"".join(self.get(
+            "log/000002.jsonl").encode().splitlines(True)[:-1])).hexdigest(), "service": "openfga"},
+            *timed([check(10 ** 6, True, rel("none")), check(10 ** 6, False, rel("none"))])])
+        self.put("log/000003.jsonl", more)
+        self.wait_for(lambda: any(row.get("from") == "log/000003.jsonl:3" for row in self.told()),
+                      lambda: self.get("monitor.err"))
+        self.stop(one)
+        self.assertEqual(self.get("monitor.err").count("has ended"), 1)
 
     def test_it_goes_on_in_the_next_file(self):
         """Where a run has ended with a file, the next one begins with the first line of the file behind it."""
@@ -366,8 +455,8 @@ class Receivers(Hooked):
         self.assertEqual([rows[0][key] for key in ("user", "object", "relation", "version", "from", "ignored_from",
                                                    "time", "ignored_since")], [
             "user:bob", "doc:plan", "viewer", "v2", "log/000001.jsonl:8", "log/000001.jsonl:6",
-                                                                               "2026-11-26T10:00:06Z",
-                                                                               "2026-11-26T10:00:04Z"])
+                                                                               DAY + "T10:00:06Z",
+                                                                               DAY + "T10:00:04Z"])
         self.assertIn("doc:plan#viewer@user:bob was removed", [event["text"] for event in rows[0]["story"]["events"]])
         self.assertEqual(server.are_signed, [True, True])
         # The story that goes on is told with its count, when the run ends.
@@ -387,7 +476,7 @@ class Receivers(Hooked):
         self.wait_for(lambda: len(self.told()) == 2)
         self.stop(one)
         again = self.told()[1]
-        self.assertEqual([again[key] for key in ("kind", "first", "count", "more", "until")], ["again", 1, 4, 3, "2026-11-26T10:00:08Z"])
+        self.assertEqual([again[key] for key in ("kind", "first", "count", "more", "until")], ["again", 1, 4, 3, DAY + "T10:00:08Z"])
 
     def test_a_webhook_that_is_not_there(self):
         """The alerts wait on the disk, and a later monitor tells them."""
@@ -415,11 +504,57 @@ class Receivers(Hooked):
         self.assertEqual([json.loads(line)["alert"] for line in self.get("taken").splitlines()], [1, 1, 2, 3])
 
     def test_the_log_of_the_system(self):
+        send = Send("syslog", 1, "{}")
         with socket.socket(socket.AF_UNIX, socket.SOCK_DGRAM) as end:
             end.bind(self.path("log"))
-            self.assertIsNone(Syslog(self.path("log")).take("{}"))
+            self.assertIsNone(Syslog(self.path("log")).take(send))
             self.assertEqual(end.recv(100), b"<26>new_enemy: {}")
-        self.assertRegex(Syslog(self.path("none")).take("{}"), "No such file")
+        self.assertRegex(Syslog(self.path("none")).take(send), "No such file")
+
+    def test_a_command_that_outlives_its_monitor(self):
+        """It is not begun again: the next monitor waits for it, and goes on with the alert behind."""
+        self.log()
+        self.put("take", "#!/bin/sh\necho begun >> turns\nuntil test -e go; do sleep 0.05; done\ncat >> taken\n")
+        os.chmod(self.path("take"), 0o700)
+        one = self.monitor("--command", "./take")
+        self.wait_for(lambda: os.path.exists(self.path("turns")), lambda: self.get("monitor.err"))
+        one.kill()
+        one.wait()
+        one = self.monitor("--once", "--command", "./take")
+        self.wait_for(lambda: self.get("monitor.err").count("run 1 has ended") == 1, lambda: self.get("monitor.err"))
+        self.assertEqual(self.get("turns"), "begun\n")
+        self.put("go", "")
+        self.ends(one)
+        self.assertEqual([json.loads(line)["alert"] for line in self.get("taken").splitlines()], [1, 2, 3])
+        self.assertEqual(self.get("turns"), "begun\n" * 3)
+
+    def test_a_file_that_has_the_line_already(self):
+        """A monitor that was killed before its mark, or in a line, finds what the file has."""
+        self.log()
+        self.ends(self.monitor("--once"))
+        told = self.get("told")
+        self.assertEqual(len(told.splitlines()), 3)
+        first = told.splitlines(True)[0]
+        for number, (has, wanted) in enumerate(((told, told), (first[:40], told), (first, told), ("", told),
+                                                ("of others", "of others\n" + told))):
+            with self.subTest(has):
+                self.put("told%d" % number, has)
+                # Without marks and days it is told anew, as by a monitor that was killed in its first run.
+                self.ends(self.monitor("--once", told="told%d" % number, out="again%d" % number))
+                self.assertEqual(self.get("told%d" % number), wanted)
+
+    def test_marks_that_were_altered_or_taken_away(self):
+        """Each number is given to one alert alone, also where the journal is gone."""
+        self.log()
+        self.ends(self.monitor("--once"))
+        self.assertEqual(self.get("out/delivered/output"), "%020d\n" % 3)
+        shutil.rmtree(self.path("out/days"))
+        os.remove(self.path("out/alerts.jsonl"))
+        self.ends(self.monitor("--once"))
+        self.assertEqual([row["alert"] for row in self.told()], [1, 2, 3, 4, 5, 6])
+        self.put("out/delivered/output", "7\n")
+        self.ends(self.monitor("--once"), 2)
+        self.assertIn("out/delivered/output: this is no number of an alert", self.get("monitor.err"))
 
     def test_a_secret_that_is_none(self):
         self.log()
@@ -474,10 +609,12 @@ class Metrics(Hooked):
         self.stop(one)
 
     def test_lag(self):
-        """A check above all commits waits for one, and is told to wait."""
-        events = [RULES, BASE, PLACE, write(5, rel()), check(7)]
-        self.put_log([files_of(timed(events), [], "spicedb")[0].rpartition(b'{"event":"closed"')[0]])
+        """A check above all commits waits for one, and is told to wait, also in the run behind it."""
+        events, day = [RULES, BASE, PLACE, write(5, rel()), check(7)], "2026-11-26"
+        self.put_log([files_of(timed(events, day), [], "spicedb")[0].rpartition(b'{"event":"closed"')[0]])
         one = self.monitor("--most-lag", "2", "--most-loss", "100")
+        # The day of the check is over.
+        self.wait_for(lambda: "run 1 has ended" in self.get("monitor.err"), lambda: self.get("monitor.err"))
         self.wait_for(lambda: self.told())
         self.assertEqual([(row["kind"], row["state"]) for row in self.told()], [("lag", "passed")])
         with open(self.path("log/000001.jsonl"), "ab") as file:
@@ -499,8 +636,8 @@ class Examples(Monitoring):
         started = re.search(r"ExecStart=/usr/bin/new-enemy-tools monitor (.+)", text)[1].replace("%i", "x")
         shown = re.search(r"#   WORDS=(.+)", text)[1]
         _, given = given_of(started.replace("$WORDS", shown).split())
-        self.assertEqual((given.log, given.out, given.webhook, given.metrics), (
-            "/var/lib/private/new-enemy/x", "/var/lib/new-enemy-monitor/x", ["https://duty.example/alerts"],
+        self.assertEqual((given.logs, given.out, given.webhook, given.metrics), (
+            ["/var/lib/private/new-enemy/x"], "/var/lib/new-enemy-monitor/x", ["https://duty.example/alerts"],
                                                                                 "127.0.0.1:8092"))
 
     @unittest.skipUnless(shutil.which("systemd-analyze"), "there is no systemd-analyze")
@@ -514,7 +651,7 @@ class Examples(Monitoring):
         self.assertEqual([os.path.exists(os.path.join(TOP, word)) for word in copied], [True] * 3)
         started = json.loads(re.search("ENTRYPOINT (.+)", self.text("Containerfile"))[1])
         _, given = given_of([*started[3:], "--syslog"])
-        self.assertEqual((given.log, given.out), ("/log", "/watched"))
+        self.assertEqual((given.logs, given.out), (["/log"], "/watched"))
 
     def test_the_board_asks_for_what_there_is(self):
         """Each number of the board is one that the monitor gives, with the labels that the board names."""

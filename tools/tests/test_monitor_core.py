@@ -56,6 +56,9 @@ class Simulated(CoreCase):
         wanted = {row["id"]: row for row in whole["two"]}
         self.assertEqual(len(wanted), len(whole["two"]), "told twice")
         self.assertEqual([row["id"] for row in whole["one"]], [row["id"] for row in whole["two"]])
+        # Who is up gets an alert once more where the monitor was killed before its mark; who can be asked, never.
+        self.assertLessEqual(len(broken["two"]), len(wanted) + lives)
+        self.assertEqual(len({row["id"] for row in broken["file"]}), len(broken["file"]), "told twice")
         for rows in broken.values():
             told = {row["id"]: row for row in rows}
             self.assertEqual(set(told), set(wanted), number)
@@ -74,6 +77,20 @@ class Simulated(CoreCase):
         self.assertGreater(kinds["finding"], SEEDS)
         self.assertGreater(kinds["again"], SEEDS // 4)
 
+    def test_days_that_end_by_the_clock(self):
+        """Whenever no line comes for a day: the runs together have what the whole log has."""
+        runs = 0
+        for number in range(SEEDS // 3):
+            random, has_between = Random("nights of a monitor %d" % number), number % 2 == 1
+            log = log_of(random, has_between)
+            for kills in (0.0, 0.01):
+                told, kept, _ = told_by(lines_of(log), random, kills, has_between, nights=0.1)
+                self.assertEqual(by_finding(kept.counts), self.findings(log), number)
+                ids = [row["id"] for row in told["file"]]
+                self.assertEqual(len(set(ids)), len(ids), "told twice")
+                runs += len(kept.runs)
+        self.assertGreater(runs, SEEDS)
+
     def test_other_strata(self):
         """A tuple by which a relation stands on what it did not stand on before ends the run before it."""
         for number in range(6):
@@ -91,8 +108,9 @@ class Simulated(CoreCase):
             broken, again, _ = told_by(lines_of(log), random, 0.01, False)
             for disk in kept, again:
                 self.assertEqual(by_finding(disk.counts), self.findings(log))
-            # Where the runs end hangs on which lines came together.
-            self.assertEqual(*({row["id"].partition(".")[0] for row in told["two"]} for told in (whole, broken)))
+            # Where the runs end hangs on which lines came together, and so do effects of changes behind an end.
+            self.assertEqual(*({(row["named"], row["reply"]) for row in told["two"] if row["kind"] == "finding"}
+                               for told in (whole, broken)))
 
 
 # Which of a story's requests, and which finding of it, is told first hangs on what came together.

@@ -3,13 +3,16 @@ what it holds back."""
 import json
 import os
 import subprocess
+import unittest
 from random import Random
 from unittest import mock
 
 from new_enemy_tools.ids import Ids
+from new_enemy_tools.importing.times import nanoseconds
 from new_enemy_tools.monitoring import holding as holding_of
 from new_enemy_tools.monitoring.faults import MonitorFault
 from new_enemy_tools.monitoring.holding import STATE_WAIT, WRITE_WAIT, Holding
+from new_enemy_tools.monitoring.midnights import NoZone, midnight_after, zone_of
 from new_enemy_tools.monitoring.run import Begun, Run
 from new_enemy_tools.monitoring.stream import Chunk
 from new_enemy_tools.windowing.run import NOTHING
@@ -188,3 +191,35 @@ class Held(CoreCase):
         found = [holding.ready(lambda *_: False, -1, 0.0) for _ in range(4)]
         self.assertEqual([([chunk.first for chunk in one.chunks], one.is_over) for one in found],
                          [([1], True), ([3], True), ([4], False), ([], False)])
+
+    def test_days_of_a_zone(self):
+        """In winter Berlin is an hour ahead."""
+        holding = Holding(30.0, True, zone=zone_of("Europe/Berlin"))
+        days = [check(0, time="2026-11-26T%s:00Z" % time) for time in ("22:59", "23:00", "23:59")]
+        holding.put(Chunk("log", 1, b"".join(lines_of(days))), 0.0)
+        found = [holding.ready(lambda *_: False, -1, 0.0) for _ in range(2)]
+        self.assertEqual([([chunk.first for chunk in one.chunks], one.is_over) for one in found],
+                         [([1], True), ([2], False)])
+
+
+class Midnights(unittest.TestCase):
+    """By the tables of time zones."""
+
+    def test_the_first_midnight_behind_a_time(self):
+        for zone, time, wanted in (
+                ("UTC", "2026-11-26T00:00:00Z", "2026-11-27T00:00:00"),
+                ("UTC", "2026-11-26T23:59:59.999Z", "2026-11-27T00:00:00"),
+                ("Europe/Berlin", "2026-11-26T22:59:59Z", "2026-11-26T23:00:00"),
+                ("Europe/Berlin", "2026-07-26T22:00:00Z", "2026-07-27T22:00:00"),
+                # There the clock was put ahead at midnight, so the day begins at one.
+                ("Asia/Beirut", "2025-03-29T20:00:00Z", "2025-03-29T22:00:00"),
+                # There the 30th of December was left out.
+                ("Pacific/Apia", "2011-12-29T20:00:00Z", "2011-12-30T10:00:00"),
+                ("UTC", "9999-12-31T10:00:00Z", "~")):
+            with self.subTest(zone=zone, time=time):
+                self.assertEqual(midnight_after(nanoseconds(time), zone_of(zone)).text.decode(), wanted)
+
+    def test_a_zone_that_is_none(self):
+        for name in ("Europe/Nowhere", "../etc/passwd", ""):
+            with self.assertRaisesRegex(NoZone, "is no time zone that this machine has"):
+                zone_of(name)

@@ -1,11 +1,12 @@
 """Audits a recorder's log while it grows, and tells what is found within seconds (docs/MONITORING.md).
 
-    ne monitor [--webhook URL [--secret FILE]] [--command COMMAND] [--syslog] [--metrics ADDRESS] LOG OUT
+    ne monitor [--webhook URL [--secret FILE]] [--command COMMAND] [--syslog] [--metrics ADDRESS] LOG .. OUT
 
-LOG is the folder that `ne record` writes to, and OUT a folder of the monitor's own. Each story that matters is told
+LOG is the folder that `ne record` writes to, and OUT a folder of the monitor's own. The logs of several recorders of
+one service are joined. Each story that matters is told
 once, as a line of JSON on standard output where no receiver is given, and to each receiver that is; it is told again
-with a count while it goes on. With the first reply of another day (UTC), or where the trace has --day-bytes, the run
-ends: OUT/days has a folder for each, as `ne day` makes them.
+with a count while it goes on. At midnight (--zone), or where the trace has --day-bytes, the run ends: OUT/days has a
+folder for each, as `ne day` makes them.
 
 It ends with status 0 at SIGTERM, and goes on where it was when it is started again, also after a kill. The status is 2
 where something is refused, which is told as an alert too, and 5 where a file or a program can't be used.
@@ -14,17 +15,21 @@ import argparse
 import os
 import sys
 from argparse import Namespace
-from typing import Optional
+from datetime import tzinfo
+from typing import Iterator, Optional
 
 from new_enemy_tools import limits
-from new_enemy_tools.commands.running import Parser, add_allowing, percent
+from new_enemy_tools.commands.running import Parser, add_allowing, add_skew, percent
 from new_enemy_tools.commands.window import PROGRAM
 from new_enemy_tools.effects import EFFECTS
 from new_enemy_tools.faults import DeviceFault, ToolFault
 from new_enemy_tools.files import read_bytes
 from new_enemy_tools.monitoring.core import Settings
+from new_enemy_tools.monitoring.joined import FOLDER, Several
 from new_enemy_tools.monitoring.kept import options
 from new_enemy_tools.monitoring.machine import Machine, Way
+from new_enemy_tools.monitoring.marks import Mark
+from new_enemy_tools.monitoring.midnights import UTC, NoZone, zone_of
 from new_enemy_tools.monitoring.receivers import SYSLOG, Command, Output, Receiver, Syslog, Webhook
 from new_enemy_tools.recording.command import address_of, url_of
 from new_enemy_tools.shown import tell
@@ -42,11 +47,21 @@ def effects_of(text: str) -> frozenset[str]:
     return words
 
 
+def zone_named(text: str) -> tzinfo:
+    try:
+        return zone_of(text)
+    except NoZone as fault:
+        raise argparse.ArgumentTypeError(str(fault)) from None
+
+
 def given_of(words: list[str]) -> tuple[Parser, Namespace]:
     parser = Parser(prog="ne monitor", description=__doc__)
     add_telling(parser)
     add_runs(parser)
-    parser.add_argument("log", metavar="LOG", help="the folder of a recorder's log")
+    add_skew(parser)
+    parser.add_argument("--ended", action="append", default=[], metavar="LOG",
+                        help="of several logs one whose recorder has ended for good, so that nothing waits for it")
+    parser.add_argument("logs", metavar="LOG", nargs="+", help="the folder of a recorder's log; several are joined")
     parser.add_argument("out", metavar="OUT", help="the monitor's folder")
     given = parser.parse_args(words)
     for name, least in (("again", 1), ("most_lag", 0), ("hold", 0), ("keep_days", 0), ("keep_snapshots", 0),
@@ -56,9 +71,25 @@ def given_of(words: list[str]) -> tuple[Parser, Namespace]:
             parser.error("--%s is below %d" % (name.replace("_", "-"), least))
     if not LEAST_BYTES <= given.day_bytes <= MOST_BYTES:
         parser.error("--day-bytes is from %d to %d" % (LEAST_BYTES, MOST_BYTES))
+    refuse_logs(parser, given)
+    if given.page and given.metrics is None:
+        parser.error("--page goes with --metrics")
     if given.secret is not None and not given.webhook:
         parser.error("--secret goes with --webhook")
     return parser, given
+
+
+def refuse_logs(parser: Parser, given: Namespace) -> None:
+    """Ends where the words on several logs don't go together."""
+    given.logs, given.ended = [[os.path.normpath(path) for path in paths] for paths in (given.logs, given.ended)]
+    if len(set(map(os.path.realpath, given.logs))) < len(given.logs):
+        parser.error("one LOG stands twice")
+    if len(given.logs) == 1 and (given.ended or given.skew != parser.get_default("skew")):
+        parser.error("--ended and --skew are of several logs that are joined; give their folders")
+    for folder in set(given.ended) - set(given.logs):
+        parser.error("--ended %s names no LOG" % folder)
+    if given.skew < 0:
+        parser.error("--skew is below 0")
 
 
 def add_telling(parser: Parser) -> None:
@@ -77,6 +108,8 @@ def add_telling(parser: Parser) -> None:
                         help="how often at most a story that goes on is told again (600)")
     parser.add_argument("--metrics", metavar="ADDRESS",
                         help="where /health and /metrics are answered, as 127.0.0.1:8092")
+    parser.add_argument("--page", action="store_true",
+                        help="answer a page there too, at /; it names users and what they asked for")
     parser.add_argument("--most-lag", type=float, default=60.0, metavar="SECONDS",
                         help="an alert where a reply waits longer for its audit (60)")
     parser.add_argument("--most-loss", type=percent, default=1.0, metavar="PERCENT",
@@ -90,6 +123,8 @@ def add_runs(parser: Parser) -> None:
                         "gap may still say why (30)")
     parser.add_argument("--day-bytes", type=int, default=MOST_BYTES // 2, metavar="N",
                         help="end a run where its trace has so many bytes (%d)" % (MOST_BYTES // 2))
+    parser.add_argument("--zone", type=zone_named, default=zone_of(UTC), metavar="ZONE",
+                        help="end a run at midnight in this time zone, as Europe/Berlin (UTC)")
     parser.add_argument("--html", action="store_true", help="write a page of each day, and an index of all")
     parser.add_argument("--keep-days", type=int, default=30, metavar="N", help="keep the traces of so many runs (30)")
     parser.add_argument("--keep-snapshots", type=int, default=1, metavar="RUNS",
@@ -114,15 +149,22 @@ def secret_of(path: Optional[str]) -> Optional[bytes]:
     return secret
 
 
+def numbered(name: str, texts: list[str]) -> Iterator[tuple[str, str]]:
+    """The first has the name alone."""
+    return (((name if number == 1 else "%s %d" % (name, number)), text) for number, text in enumerate(texts, 1))
+
+
+def mark_of(given: Namespace, name: str) -> Mark:
+    return Mark(os.path.join(given.out, "delivered", name))
+
+
 def receivers_of(parser: Parser, given: Namespace) -> dict[str, Receiver]:
-    """By the names under which what waits for them is kept."""
-    found: dict[str, Receiver] = {}
+    """By the names under which it is kept what they have."""
     secret = secret_of(given.secret)
-    for number, text in enumerate(given.webhook, 1):
-        name = "webhook" if number == 1 else "webhook %d" % number
-        found[name] = Webhook(url_of(parser, text), secret)
-    for number, text in enumerate(given.command, 1):
-        found["command" if number == 1 else "command %d" % number] = Command(text)
+    found: dict[str, Receiver] = {name: Webhook(url_of(parser, text), secret)
+                                  for name, text in numbered("webhook", given.webhook)}
+    for name, text in numbered("command", given.command):
+        found[name] = Command(text, mark_of(given, name))
     if given.syslog:
         found["syslog"] = Syslog(SYSLOG)
     if given.print or not found:
@@ -133,20 +175,24 @@ def receivers_of(parser: Parser, given: Namespace) -> dict[str, Receiver]:
 def way_of(parser: Parser, given: Namespace) -> Way:
     receivers = receivers_of(parser, given)
     settings = Settings(tuple(receivers), given.effects, given.again, given.most_lag, given.most_loss,
-                        given.hold + 1.0, given.day_bytes)
+                        given.hold + 1.0, given.day_bytes, given.zone)
     metrics = None if given.metrics is None else address_of(parser, given.metrics, "--metrics")
-    log = os.path.normpath(given.log)
-    how = options(os.path.join(given.out, "days"), given.program, [log], given.html, given.keep_days,
+    is_one = len(given.logs) == 1
+    log = given.logs[0] if is_one else os.path.join(given.out, FOLDER)
+    several = None if is_one else Several(tuple(given.logs), given.skew * 1_000_000, frozenset(given.ended))
+    how = options(os.path.join(given.out, "days"), given.program, given.logs, given.html, given.keep_days,
                   given.allow_unaudited,
                   given.keep_snapshots, given.keep_versions)
-    return Way(log, given.out, how, settings, receivers, metrics, given.once)
+    marks = {name: mark_of(given, name) for name in receivers}
+    return Way(log, " and ".join(given.logs), several, given.out, how, settings, receivers, marks, metrics, given.page, given.once)
 
 
 def main(words: list[str]) -> int:
     parser, given = given_of(words)
     way = way_of(parser, given)
-    if not os.path.isdir(way.log):
-        raise DeviceFault("cannot open %s: it is no folder; give that of a recorder's log (ne record --out)" % way.log)
+    missing = [log for log in given.logs if not os.path.isdir(log)]
+    if missing and (way.several is None or len(missing) == len(given.logs)):
+        raise DeviceFault("cannot open %s: it is no folder; give that of a recorder's log (ne record --out)" % missing[0])
     return ran(Machine(way), way)
 
 
@@ -158,7 +204,7 @@ def ran(machine: Machine, way: Way) -> int:
         machine.serve()
         machine.hear_signals()
         machine.begin()
-        tell("monitor: reading %s, and keeping %s" % (way.log, way.folder), sys.stderr)
+        tell("monitor: reading %s, and keeping %s" % (way.logs, way.folder), sys.stderr)
         machine.live()
     except ToolFault as ended:
         fault, status = str(ended), ended.status

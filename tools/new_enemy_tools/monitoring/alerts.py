@@ -109,9 +109,8 @@ class Stories:
 
 def key_of(run: Run, told: Told) -> str:
     """What a story is known by in any run over the same log."""
-    entry = told.entry
-    # The folder of a log may be another one by then.
-    by = (run.change_of(told) or "").rpartition("/")[2] if told.outcome is not None else told.finding.finding
+    entry, change = told.entry, run.change_of(told)
+    by = (change and change.revision) if told.outcome is not None else told.finding.finding
     parts = [entry.kind, run.names.tuple(entry.goal), entry.reply, told.effect.word, told.outcome, by]
     return blake2b(json.dumps(parts).encode(), digest_size=8).hexdigest()
 
@@ -120,11 +119,11 @@ def text_of(run: Run, telling: Telling, told: Told) -> Row:
     """What is told of a finding."""
     row = row_of(telling, told)
     row["asked"] = row.pop("kind")
-    named = run.names.question(told.entry.goal)
+    named, change = run.names.question(told.entry.goal), run.change_of(told)
     made: Row = {"kind": "finding", "title": _title(run, told, named.user),
                  "said": plain(sentence({**row, "kind": row["asked"]})), "count": 1, **row,
                  "user": named.user, "object": "%s:%s" % named[:2], "relation": named.relation,
-                 "ignored_from": run.change_of(told)}
+                 "ignored_from": change and change.source}
     if told.outcome is not None:
         made["story"] = _story(run, told)
     return {key: value for key, value in made.items() if value is not None}

@@ -2,17 +2,20 @@
 comes out.
 
 Of what it gives out `Keep` has to be on the disk before a `Send` behind it is sent, so that a monitor which is killed
-tells nothing twice that was kept, and loses nothing. A run that begins anew is given the lines of the log since the
-run's beginning, and the rows that were kept.
+loses nothing; and who sends marks what a receiver has before it is answered here, so that nothing is told twice that
+was marked. A run that begins anew is given the lines of the log since the run's beginning, the rows that were kept, and
+the marks.
 """
 import json
-from collections import Counter
-from typing import Iterable, Iterator, NamedTuple, Optional, Union
+from collections import Counter, deque
+from datetime import timezone, tzinfo
+from typing import Iterable, Iterator, Mapping, NamedTuple, Optional, Union
 
 from new_enemy_tools.coverage import Coverage
 from new_enemy_tools.monitoring.alerts import Alert, Known, Row, Stories, line_of
 from new_enemy_tools.monitoring.delivery import Delivery, Send
 from new_enemy_tools.monitoring.holding import Holding
+from new_enemy_tools.monitoring.midnights import midnight_after
 from new_enemy_tools.monitoring.run import Run
 from new_enemy_tools.monitoring.stream import Chunk, NewStrata
 from new_enemy_tools.telling import Telling
@@ -30,6 +33,8 @@ class Settings(NamedTuple):
     # so long a check of an unknown version is held
     hold: float = 31.0
     day_bytes: int = 1 << 28
+    # whose days the runs are
+    zone: tzinfo = timezone.utc
 
 
 class Feed(NamedTuple):
@@ -57,7 +62,20 @@ class BeginAnew(NamedTuple):
     stop: tuple[str, int]
 
 
+# So many alerts are shown.
+RECENT = 100
+
 Out = Union[Feed, Keep, Send, EndRun, BeginAnew]
+
+
+class Unjoined(NamedTuple):
+    """The checks that wait for the logs of other recorders: how many, when the first had its reply, and the logs that
+    are waited for; and the logs that have no base state so far."""
+
+    checks: int = 0
+    oldest: Optional[int] = None
+    logs: tuple[str, ...] = ()
+    unbegun: tuple[str, ...] = ()
 
 
 class Left(NamedTuple):
@@ -69,7 +87,8 @@ class Left(NamedTuple):
 
 
 class Core:
-    def __init__(self, settings: Settings, rows: Iterable[Row]):
+    def __init__(self, settings: Settings, rows: Iterable[Row], marks: Mapping[str, int]):
+        """`marks` has of each receiver up to which alert it has them."""
         self.settings = settings
         self.delivery = Delivery(settings.receivers)
         # of the run, and of the next alert
@@ -78,28 +97,26 @@ class Core:
         self.counts: Counter[tuple[str, str]] = Counter()
         self.ended: Counter[tuple[str, str]] = Counter()
         self.alerts: Counter[str] = Counter()
-        self.gaps = 0
+        self.unjoined = Unjoined()
+        # the last alerts, for who looks
+        self.recent: deque[Row] = deque((), RECENT)
         # bounds that are passed now
         self.passed: dict[str, bool] = {"lag": False, "loss": False}
         # why the monitor before this one stopped, until this one has come to the end of the log
         self.stopped_by: Optional[str] = None
         # of the runs by their numbers the stories that were told
         self._told: dict[int, dict[str, Known]] = {}
-        self._read(rows)
+        self._read(rows, marks)
 
-    def _read(self, rows: Iterable[Row]) -> None:
-        answered: set[tuple[int, str]] = set()
-        alerts: list[Row] = []
+    def _read(self, rows: Iterable[Row], marks: Mapping[str, int]) -> None:
+        # A journal may have been taken away; a number that was marked is given to no other alert.
+        self.next = max([self.next, *(number + 1 for number in marks.values())])
         for row in rows:
-            if "answered" in row:
-                answered.add((row["answered"], row["receiver"]))
-            elif "alert" in row:
-                alerts.append(row)
             self.next = max(self.next, row.get("next", 0), row.get("alert", 0) + 1)
             self._note(row)
-        for row in alerts:
-            for receiver in row["to"]:
-                if (row["alert"], receiver) not in answered:
+            self.recent.extend([row["text"]] * ("alert" in row))
+            for receiver in row.get("to", ()):
+                if row["alert"] > marks.get(receiver, 0):
                     self.delivery.put(Send(receiver, row["alert"], line_of(row["text"])))
 
     def _note(self, row: Row) -> None:
@@ -151,6 +168,20 @@ class Core:
         elif self.run.bytes >= self.settings.day_bytes and ready.chunks:
             yield EndRun("the run is full")
 
+    def pass_time(self, wall: int) -> Iterator[Out]:
+        """Ends the run where its day is over by the clock, in nanoseconds, and no check of that day is held; to be
+        called when all of the log was read."""
+        holding = self.holding
+        if not self.run.bytes:
+            return
+        if holding.midnight is None:
+            # There was no check.
+            holding.midnight = midnight_after(wall, self.settings.zone)
+        is_held = holding.oldest is not None and holding.oldest < holding.midnight.at
+        if wall - int(self.settings.hold * 1e9) >= holding.midnight.at and not is_held:
+            holding.midnight = midnight_after(wall, self.settings.zone)
+            yield EndRun("the day is over")
+
     def said(self, line: str, now: float) -> None:
         self.run.said(line, now)
 
@@ -173,9 +204,8 @@ class Core:
         return telling._replace(told=[one for one in telling.told
                                       if (one.entry.source or "", one.finding.finding) not in self._held])
 
-    def answered(self, receiver: str, number: int, fault: Optional[str], now: float) -> Iterator[Out]:
-        if self.delivery.answered(receiver, number, fault, now):
-            yield Keep({"answered": number, "receiver": receiver})
+    def answered(self, receiver: str, number: int, fault: Optional[str], now: float) -> None:
+        self.delivery.answered(receiver, number, fault, now)
 
     def due(self, now: float) -> Iterator[Out]:
         yield from self.delivery.due(now)
@@ -188,11 +218,15 @@ class Core:
             yield from self._stop("ended", "the monitor audits again", None)
         lag, coverage = self.lag(wall), self.coverage()
         yield from self._bound("lag", lag, self.settings.most_lag,
-                               "a reply of %.1f seconds ago is not audited yet" % lag)
+                               "a reply of %.1f seconds ago is not audited yet%s" % (lag, self._waits_for()))
         loss = 0.0 if coverage.is_empty or coverage.is_whole else coverage._replace(open=0).percent
         yield from self._bound("loss", loss, self.settings.most_loss,
                                "%s; that is %.2f percent that was not looked at whole" % (
             coverage.said_counts, loss))
+
+    def _waits_for(self) -> str:
+        checks, logs = self.unjoined.checks, self.unjoined.logs
+        return "; %d wait for %s" % (checks, " and ".join(logs)) if checks else ""
 
     def _bound(self, name: str, value: float, most: float, said: str) -> Iterator[Out]:
         """An alert where a bound is passed, and one when the value is at half of it again."""
@@ -222,6 +256,7 @@ class Core:
             row: Row = {"alert": alert.number, "run": self.number, "story": alert.story,
                         "to": list(self.settings.receivers), "text": alert.text}
             self._note(row)
+            self.recent.append(alert.text)
             yield Keep(row)
             for receiver in self.settings.receivers:
                 self.delivery.put(Send(receiver, alert.number, line_of(alert.text)))
@@ -235,7 +270,7 @@ class Core:
 
     def lag(self, wall: int) -> float:
         """For how many seconds the oldest reply has waited that was read, and is not settled."""
-        times = [time for time in (self.run.oldest, self.holding.oldest) if time is not None]
+        times = [time for time in (self.run.oldest, self.holding.oldest, self.unjoined.oldest) if time is not None]
         return max(0.0, (wall - min(times)) / 1e9) if times else 0.0
 
     def coverage(self) -> Coverage:

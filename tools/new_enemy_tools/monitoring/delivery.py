@@ -33,22 +33,21 @@ class Delivery:
                 self._under_way[receiver] = waiting[0].number
                 yield waiting[0]
 
-    def answered(self, receiver: str, number: int, fault: Optional[str], now: float) -> bool:
-        """Whether a receiver has an alert now; one that has not is tried again later."""
+    def answered(self, receiver: str, number: int, fault: Optional[str], now: float) -> None:
+        """A receiver has an alert now; or has not, and is tried again later."""
         if self._under_way.get(receiver) != number:
-            return False
+            return
         del self._under_way[receiver]
         if fault is None:
             self.waiting[receiver].popleft()
             self._tries[receiver] = 0
             self.faults.pop(receiver, None)
             self._from.pop(receiver, None)
-            return True
+            return
         self._from[receiver] = now + min(LONGEST, FIRST * 2 ** min(self._tries[receiver], 10))
         self._tries[receiver] += 1
         self.failed[receiver] += 1
         self.faults[receiver] = fault
-        return False
 
     @property
     def is_idle(self) -> bool:

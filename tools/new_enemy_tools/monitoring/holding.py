@@ -8,16 +8,18 @@ it is, as an import of a whole log would take it at its end.
 """
 import re
 from collections import deque
+from datetime import timezone, tzinfo
 from itertools import islice
 from typing import Callable, Iterator, NamedTuple, Optional
 
 from new_enemy_tools import strictjson
 from new_enemy_tools.importing.times import nanoseconds
+from new_enemy_tools.monitoring.midnights import Midnight, midnight_after
 from new_enemy_tools.monitoring.stream import Chunk
 
 BETWEEN = re.compile(rb'"(?:newest|snapshot)_between":\[[0-9]+,([0-9]{1,20})\]')
 REVISION = re.compile(rb'"revision":([0-9]{1,20})')
-TIME = re.compile(rb'"time":"(([0-9]{4}-[0-9]{2}-[0-9]{2})[^"]*)"')
+TIME = re.compile(rb'"time":"([0-9]{4}-[0-9]{2}-[0-9]{2}[^"]*)"')
 CHECKS = (b'{"event":"check"', b'{"event":"content"')
 WRITE, GAP, UNMAPPED, PLACE = (b'{"event":"%s"' % kind for kind in (b"write", b"gap", b"unmapped", b"place"))
 # A recorder puts the writes of one revision into its log at once.
@@ -68,12 +70,14 @@ class Ready(NamedTuple):
 class Holding:
     """Places count all lines that were ever put here."""
 
-    def __init__(self, hold: float, is_begun: bool, stop: Optional[tuple[str, int]] = None):
-        """`stop` is a line, by its file and number, before which the run has to end."""
-        self.hold, self.is_begun, self.stop = hold, is_begun, stop
+    def __init__(self, hold: float, is_begun: bool, stop: Optional[tuple[str, int]] = None,
+                 zone: tzinfo = timezone.utc):
+        """`stop` is a line, by its file and number, before which the run has to end; its days are those of the zone."""
+        self.hold, self.is_begun, self.stop, self.zone = hold, is_begun, stop, zone
         self.lines: deque[Line] = deque()
         self.bytes = 0
-        self.day: Optional[bytes] = None
+        # the end of the day of the newest check
+        self.midnight: Optional[Midnight] = None
         self._taken = self._seen = 0
         self._last, self._need, self._need_since = -1, -1, 0.0
         # behind how many lines they can be cut
@@ -145,11 +149,7 @@ class Holding:
             self._cuts.append(place)
 
     def _see_check(self, raw: bytes, place: int, issues: Issues, now: float) -> None:
-        found = TIME.search(raw)
-        if found is not None and (self.day is None or found[2] > self.day):
-            if self.day is not None:
-                self._days.append(place)
-            self.day = found[2]
+        self._see_day(raw, place)
         between = BETWEEN.search(raw)
         if between is not None and int(between[1]) > self._need:
             self._need, self._need_since = int(between[1]), now
@@ -167,6 +167,17 @@ class Holding:
             self._issued.setdefault((of, thing, label), place)
         elif (of, thing, label) not in self._issued and not issues(of, thing, label):
             self._unknown.append(Unknown(place, (of, thing, label), time_of(raw), now + self.hold))
+
+    def _see_day(self, raw: bytes, place: int) -> None:
+        # A recorder writes times in UTC.
+        found = TIME.search(raw)
+        if found is None or self.midnight is not None and found[1] < self.midnight.text:
+            return
+        at = nanoseconds(found[1].decode())
+        if at is not None:
+            if self.midnight is not None:
+                self._days.append(place)
+            self.midnight = midnight_after(at, self.zone)
 
     def _cut_late(self, now: float) -> None:
         """Behind all lines, where they were held for too long."""

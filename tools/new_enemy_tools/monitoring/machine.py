@@ -16,12 +16,16 @@ from new_enemy_tools.monitoring.faults import MonitorFault
 from new_enemy_tools.monitoring.follower import Ended, Follower, Said
 from new_enemy_tools.monitoring.holding import Holding
 from new_enemy_tools.monitoring.journal import Journal
+from new_enemy_tools.monitoring.joined import STATE, JoinedLog, Several
 from new_enemy_tools.monitoring.kept import RunFile, keep, start_of
+from new_enemy_tools.monitoring.marks import Mark
 from new_enemy_tools.monitoring.numbers import Before, exposition
+from new_enemy_tools.monitoring.page import SILENT, Live, live_of, page_of
 from new_enemy_tools.monitoring.receivers import Answered, Receiver, Teller
 from new_enemy_tools.monitoring.run import Run
 from new_enemy_tools.monitoring.tail import Tail
 from new_enemy_tools.recording.metrics import MetricsServer
+from new_enemy_tools.recording.sketches import JOINED
 from new_enemy_tools.shown import tell
 from new_enemy_tools.windowing import carrying
 from new_enemy_tools.windowing.days import Days
@@ -36,12 +40,19 @@ WORDS = ("auditing", "not auditing as it should; see /metrics")
 class Way(NamedTuple):
     """Where a monitor works, and how."""
 
+    # the folder of a log; with several of these, of the joined one
     log: str
+    # the folders as they were given
+    logs: str
+    several: Optional[Several]
     folder: str
     options: Namespace
     settings: Settings
     receivers: dict[str, Receiver]
+    # by the names of the receivers
+    marks: dict[str, Mark]
     metrics: Optional[tuple[str, int]]
+    has_page: bool = False
     # whether it ends where the log does
     is_once: bool = False
 
@@ -53,14 +64,21 @@ class Machine:
         self.days = Days(way.options.folder)
         self.journal = Journal(os.path.join(way.folder, "alerts.jsonl"))
         self.inbox: "SimpleQueue[Any]" = SimpleQueue()
-        self.core = Core(way.settings, self.journal.read())
-        self.tellers = {name: Teller(name, one, self.inbox) for name, one in way.receivers.items()}
+        self.core = Core(way.settings, self.journal.read(), {name: one.begin() for name, one in way.marks.items()})
+        self.tellers = {name: Teller(name, one, way.marks[name], self.inbox) for name, one in way.receivers.items()}
         self.before = Before()
         self.is_stopping = self.is_caught_up = False
         self.began = self.looked = time.monotonic()
         self.shown, self.is_well = "", False
+        self.live_page: Optional[Live] = None
         self.tail: Optional[Tail] = None
         self.follower: Optional[Follower] = None
+        self.joined: Optional[JoinedLog] = None
+        if way.several is not None:
+            self.joined = JoinedLog(way.folder, way.several, way.settings.hold, self.days.last is None)
+        elif os.path.exists(os.path.join(way.folder, STATE)):
+            raise MonitorFault("the runs before are of several logs that were joined; give them all, or another folder "
+                               "of the monitor")
 
     # Runs
 
@@ -75,7 +93,7 @@ class Machine:
         number = 1 + (self.days.last or 0)
         if holding is None:
             self.tail = Tail(self.way.log, start.place)
-            holding = Holding(self.way.settings.hold, self.days.last is not None, stop)
+            holding = Holding(self.way.settings.hold, self.days.last is not None, stop, self.way.settings.zone)
         self.file = RunFile(self.days.work("trace"), start.begun.state.head.lines)
         self.follower = Follower(self.way.options.program, self.inbox)
         self.is_fed = False
@@ -86,7 +104,7 @@ class Machine:
         """Whether checks may have looked at any state between two; of a log that is not there yet that is not known,
         and taken to be so."""
         assert self.tail is not None
-        return self.tail.first_service() != "spicedb"
+        return (self.tail.first_service() or "").removeprefix(JOINED) != "spicedb"
 
     def _end_run(self, why: str) -> None:
         given, run, now = self.way.options, self.run, time.monotonic()
@@ -101,9 +119,13 @@ class Machine:
         line = self.core.holding.lines[0] if self.core.holding.lines else None
         place = self.tail.here() if line is None else self.tail.place_at(line.file, line.number)
         self.before = self.before.plus(self.core)
+        if self.joined is not None:
+            self.joined.keep()
         number = keep(self.days, given, run, carry, status, self.core.leave(), place, self.file)
         self.days.mark_told(number)
         self.tail.forget(place.file)
+        if self.joined is not None:
+            self.joined.forget(place.file)
         tell("monitor: run %d has ended, since %s; %s" % (number, why, self.days.tell(number).splitlines()[-1]),
              sys.stderr)
         self.journal.replace(self.core.kept_rows())
@@ -123,6 +145,8 @@ class Machine:
             self._do(self.core.tell(now))
             self._do(self.core.due(now))
             self._look(now, is_more)
+            if not is_more and not self.way.is_once:
+                self._do(self.core.pass_time(time.time_ns()))
             if self.way.is_once and not is_more and not self.core.holding.lines:
                 if self.run.bytes:
                     self._end_run("the log ends")
@@ -131,10 +155,14 @@ class Machine:
     def _read(self) -> bool:
         """Reads more of the log; whether there may be more still."""
         assert self.tail is not None
+        is_more = False
+        if self.joined is not None:
+            is_more = self.joined.read(self.way.is_once)
+            self.core.unjoined = self.joined.unjoined()
         while self.core.has_room:
             chunk = self.tail.read()
             if chunk is None:
-                return False
+                return is_more
             self.core.read(chunk, time.monotonic())
         return True
 
@@ -157,7 +185,7 @@ class Machine:
             if message.by is self.follower:
                 self.core.said(message.line, now)
         elif isinstance(message, Answered):
-            self._do(self.core.answered(message.receiver, message.number, message.fault, now))
+            self.core.answered(message.receiver, message.number, message.fault, now)
         elif isinstance(message, Ended) and message.by is self.follower and not self.run.is_closed:
             raise MonitorFault("the program refuses the trace: %s" % message.by.fault())
 
@@ -197,6 +225,7 @@ class Machine:
         self.journal.sync()
         self.shown = exposition(self.core, self.before, wall, self.is_caught_up)
         self.is_well = self.is_caught_up and not any(self.core.passed.values())
+        self.live_page = live_of(self.core, self.before, self.way.logs, wall, self.is_caught_up)
 
     # The end
 
@@ -226,12 +255,21 @@ class Machine:
         """Answers on the address of the metrics, in a thread of its own; raises DeviceFault where it can't."""
         if self.way.metrics is None:
             return
-        server, loop = MetricsServer(lambda: self.is_well, lambda: self.shown, WORDS), asyncio.new_event_loop()
+        server = MetricsServer(lambda: self.is_well and self._age() < SILENT, lambda: self.shown, WORDS,
+                               self._page if self.way.has_page else None)
+        loop = asyncio.new_event_loop()
         try:
             loop.run_until_complete(server.serve(*self.way.metrics))
         except OSError as fault:
             raise DeviceFault("cannot listen at %s:%d: %s" % (*self.way.metrics, fault.strerror)) from None
         Thread(target=loop.run_forever, daemon=True).start()
+
+    def _age(self) -> float:
+        """For how many seconds it has not looked."""
+        return time.monotonic() - self.looked
+
+    def _page(self) -> str:
+        return "The monitor begins.\n" if self.live_page is None else page_of(self.live_page, self._age())
 
     def hear_signals(self) -> None:
         def stop(*_: object) -> None:

@@ -2,6 +2,7 @@
 from collections import Counter
 from typing import Any, Mapping, NamedTuple
 
+from new_enemy_tools.looked import Looked
 from new_enemy_tools.monitoring.core import Core
 from new_enemy_tools.recording.metrics import family
 
@@ -16,13 +17,14 @@ class Before(NamedTuple):
     in_part: Mapping[str, int] = {}
     lost: Mapping[str, int] = {}
     gaps: int = 0
+    looked: Looked = Looked(0, 0, 0)
 
     def plus(self, core: Core) -> "Before":
         """With those of the run that goes on."""
         coverage = core.coverage()
         return Before(self.entries + core.run.entries, _sum(self.not_audited, coverage.not_audited),
                       _sum(self.in_part, coverage.in_part), _sum(self.lost, coverage.lost),
-                      self.gaps + coverage.uncounted)
+                      self.gaps + coverage.uncounted, self.looked.plus(core.run.counts.looked))
 
 
 def _sum(one: Mapping[str, int], other: Mapping[str, int]) -> dict[str, int]:
@@ -44,6 +46,9 @@ def exposition(core: Core, before: Before, wall: int, is_caught_up: bool) -> str
         ("open", "gauge", "Checks in the trace that no commit has settled.", {"": run.through.open}, ()),
         ("held_lines", "gauge", "Lines of the log that are held, since lines behind them may move them.",
          {"": len(core.holding.lines)}, ()),
+        ("unjoined", "gauge", "Checks that wait for the logs of other recorders.", {"": core.unjoined.checks}, ()),
+        ("logs_unbegun", "gauge", "Logs that have no base state so far, and are not looked at.",
+         {"": len(core.unjoined.unbegun)}, ()),
         ("findings_waiting", "gauge", "Findings whose effect waits for changes.", {"": run.waiting}, ()),
         ("alerts_total", "counter", "Alerts by their kind, since this monitor began.", dict(core.alerts), ("kind",)),
         ("alerts_waiting", "gauge", "Alerts that a receiver has not got.",

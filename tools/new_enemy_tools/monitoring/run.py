@@ -10,6 +10,7 @@ from new_enemy_tools.findings import ON_TOKENS, Finding, Report, finding_of
 from new_enemy_tools.ids import Ids
 from new_enemy_tools.importing import causes
 from new_enemy_tools.importing.going_on import Left
+from new_enemy_tools.kept import Commit
 from new_enemy_tools.limits import LINE_BYTES
 from new_enemy_tools.looked import Looked, looked_in
 from new_enemy_tools.monitoring.faults import MonitorFault
@@ -59,6 +60,12 @@ class Piece(NamedTuple):
     last: int
 
 
+def held_over(state: State) -> list[Piece]:
+    """The checks that no run before has settled."""
+    found = [Piece(row.line, at, at) for row in state.rows if row.kind == "h" and (at := time_of(row.raw)) is not None]
+    return sorted(found)
+
+
 class Waiting(NamedTuple):
     finding: Finding
     until: float
@@ -81,7 +88,7 @@ class Run:
         # the trace's own bytes
         self.bytes = 0
         # what is not settled yet
-        self._pieces: deque[Piece] = deque()
+        self._pieces = deque(held_over(begun.state))
         self.newest: Optional[int] = None
         self._waiting: list[Waiting] = []
         self._is_fed = False
@@ -274,9 +281,7 @@ class Run:
     def waiting(self) -> int:
         return len(self._waiting)
 
-    def change_of(self, told: Told) -> Optional[str]:
-        """Where in the log the change stands that a reply ignored."""
-        if told.change is None:
-            return None
-        place = self.trace.commits.place_at(told.change.at)
-        return None if place is None else self.trace.commits[place].source
+    def change_of(self, told: Told) -> Optional[Commit]:
+        """The change that a reply ignored, as it stands in the log."""
+        place = None if told.change is None else self.trace.commits.place_at(told.change.at)
+        return None if place is None else self.trace.commits[place]

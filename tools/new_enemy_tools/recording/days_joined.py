@@ -5,7 +5,7 @@ place among the changes that the closed files of each log have passed; a log tha
 """
 import heapq
 from hashlib import sha256
-from typing import Iterator, NamedTuple, Sequence
+from typing import Callable, Collection, Iterable, Iterator, NamedTuple, Sequence, TypeVar
 
 from new_enemy_tools.importing.times import nanoseconds
 from new_enemy_tools.recording.joining import UNORDERED, Join, Moved, OfPlaces, Placed, beginning_of, by_beginning, lost
@@ -22,7 +22,7 @@ class Taken(NamedTuple):
 
     name: str
     lines: int = 0
-    held: Sequence[int] = ()
+    held: Collection[int] = ()
     is_over: bool = False
 
 
@@ -43,13 +43,26 @@ class Waiting(NamedTuple):
 
 def join_day(given: list[Given], over: set[str], skew: int, before: Before = Before()) -> "DayJoin":
     """Joins the logs but for those that begin behind what the others have so far; `over` are the names of those that ended for good."""
-    missing = sorted({one.name for one in before.logs} - {one.name for one in given})
+    refuse_missing([one.name for one in given], before)
+    return without_late(given, over, before, lambda some, late: DayJoin(some, over, skew, before, late))
+
+
+def refuse_missing(names: Iterable[str], before: Before) -> None:
+    """Raises JoinFault where a log is not given that was joined before."""
+    missing = sorted({one.name for one in before.logs} - set(names))
     if missing:
         raise JoinFault("%s was joined on the days before, and is not given; give the folders of all logs each day" % missing[0])
+
+
+Made = TypeVar("Made", bound="DayJoin")
+
+
+def without_late(given: list[Given], over: set[str], before: Before, made: Callable[[list[Given], list[Given]], Made]) -> Made:
+    """What is made of the logs, and of those that are left out since they begin behind the others; raises JoinFault."""
     late: list[Given] = []
     while True:
         try:
-            return DayJoin([one for one in given if one not in late], over, skew, before, late)
+            return made([one for one in given if one not in late], late)
         except Unreached as fault:
             if any(fault.name == one.name for one in before.logs) or all(one.name in over for one in given if one.name != fault.name):
                 raise
@@ -73,8 +86,9 @@ class DayJoin(Join):
         # what is left to a later day, and the logs for which some check of a version waits
         self.left: dict[tuple[int, int], Value] = {}
         self.asked: set[int] = set()
-        # of each log when its last line at each place was written
+        # of each log when its last line at each place was written, and when the last of those that are not gone through
         self.times: list[dict[int, int]] = [{} for _ in self.sketches]
+        self.earlier = self._earlier_times()
         self.cut = self._cut()
         self.reaches = list(map(self._reach, range(len(self.sketches))))
 
@@ -91,6 +105,9 @@ class DayJoin(Join):
 
     def _places(self) -> OfPlaces:
         return OfPlaces(self.sketches, len(self.before), self.start)
+
+    def _earlier_times(self) -> list[int]:
+        return [0] * len(self.sketches)
 
     def _is_live(self, log: int) -> bool:
         return self.sketches[log].given.name not in self.over
@@ -144,7 +161,7 @@ class DayJoin(Join):
         if one.timed[1]:
             return NEVER
         if any(place > self.cut for place in times):
-            return max((at for place, at in times.items() if place <= self.cut), default=0)
+            return max([self.earlier[log], *(at for place, at in times.items() if place <= self.cut)])
         return one.until if self._is_live(log) else NEVER
 
     # Lines

@@ -14,7 +14,7 @@ from new_enemy_tools.recording.bearing import Bearing
 from new_enemy_tools.recording.lines import time_text
 from new_enemy_tools.recording.own_events import NEVER, Own, issued_by, lines_of, open_gap, placing_of, refuse_other_store
 from new_enemy_tools.recording.overheard import of_store
-from new_enemy_tools.recording.sketches import Change, Given, JoinFault, Sketch, Value, Version, last_of, refuse_unlike, version_of
+from new_enemy_tools.recording.sketches import Change, Given, JoinFault, Row, Sketch, Value, Version, last_of, refuse_unlike, version_of
 from new_enemy_tools.recording.spine import Numbered, Spine, Track
 
 # Which came first of changes that bear on a check, one recorder has in another way than another.
@@ -34,6 +34,15 @@ class Placed(NamedTuple):
     number: int
     value: Value
     come: int
+
+
+class Standing(NamedTuple):
+    """A line of a log by its number there, the revision to which the log had come, and whether its base state was still to be ended."""
+
+    number: int
+    row: Row
+    revision: int
+    is_base: bool
 
 
 class Moved(NamedTuple):
@@ -172,7 +181,7 @@ class Join:
         self.skew = skew
         if not given:
             raise JoinFault("events of an application need a log of the changes: that of `ne record --changes-only`")
-        sketches = [Sketch(one) for one in given]
+        sketches = list(map(self._sketched, given))
         refuse_unlike(sketches)
         self.service, store = sketches[0].service, sketches[0].store
         self.sketches = self._in_order(sketches)
@@ -192,6 +201,9 @@ class Join:
         self.done: set[Version] = set()
         self.told: set[Version] = set()
         self.held: dict[Version, list[Placed]] = {}
+
+    def _sketched(self, given: Given) -> Sketch:
+        return Sketch(given).read()
 
     def _in_order(self, sketches: list[Sketch]) -> list[Sketch]:
         return by_beginning(sketches)
@@ -221,25 +233,30 @@ class Join:
             yield from (one.value for one in listed)
         yield from self._open()
 
-    def _placed(self, log: int) -> Iterator[Placed]:
-        """The lines of a log, but for its changes, in the order of their places."""
+    def _rows(self, log: int) -> Iterator[Standing]:
+        """The lines of a log, but for those that say nothing of a place."""
         sketch, is_base = self.sketches[log], True
         revision = sketch.revision
         for number, row in enumerate(sketch.given.rows()):
+            if not says_nothing(row.value, is_base):
+                yield Standing(number, row, revision, is_base)
+            is_base = is_base and row.value["event"] != "place"
+            if row.value["event"] in ("rules", "write") and not is_base:
+                revision = row.value["revision"]
+
+    def _placed(self, log: int) -> Iterator[Placed]:
+        """The lines of a log, but for its changes, in the order of their places."""
+        sketch = self.sketches[log]
+        for number, row, revision, is_base in self._rows(log):
             value, event, come = row.value, row.value["event"], self.way.place(log, revision)
-            if event in ("rules", "write", "feed", "log", "place", "closed") or event == "unmapped" and value.get("userset"):
-                is_part = event in ("rules", "write", "unmapped") and is_base
-                if is_part and log == 0:
+            if is_of_base(value, is_base):
+                if log == 0:
                     yield Placed(0, log, number, value, 0)
-                if event == "place":
-                    is_base = False
-                if event in ("rules", "write") and not is_base:
-                    revision = value["revision"]
             elif event in ("check", "content"):
                 moved = self._moved(log, revision, value)
                 told = {"file": row.file, "line": row.line, "clock": sketch.given.name}
                 yield Placed(moved.place, log, number, {**(lost(value) if moved.value is None else moved.value), **told}, come)
-            elif event == "read" or event == "gap" and (value.get("from") is None or sketch.timed[1] and not value.get("lost")):
+            elif event == "gap" and (value.get("from") is None or sketch.timed[1] and not value.get("lost")):
                 # Nothing was asked through a recorder of the changes alone.
                 continue
             else:
@@ -301,6 +318,19 @@ class Join:
         """What a log does not have that was not closed."""
         return {"event": "gap", "from": time_text(max(0, one.until - self.skew - WAITED)), "to": time_text(end),
                 "reason": OPEN % one.given.name, "time": time_text(end)}
+
+
+def is_of_base(value: Value, is_base: bool) -> bool:
+    """Whether a line is a part of the base state, before the end of that."""
+    event = value["event"]
+    return is_base and (event in ("rules", "write") or event == "unmapped" and bool(value.get("userset")))
+
+
+def says_nothing(value: Value, is_base: bool) -> bool:
+    """Whether a line is told by other lines, or of no check."""
+    event = value["event"]
+    is_change = event in ("rules", "write") or event == "unmapped" and bool(value.get("userset"))
+    return is_change and not is_base or event in ("feed", "log", "place", "closed", "read")
 
 
 def lost(value: Value, reason: str = UNORDERED) -> Value:

@@ -203,6 +203,29 @@ class LogFiles:
         finally:
             os.close(descriptor)
 
+    def go_on(self, number: int, size: int) -> None:
+        """Goes on in a file as it was at a size; what was written behind that is taken away. Raises LogFault."""
+        try:
+            for name in os.listdir(self.folder):
+                if NAME.fullmatch(name) and int(name[:6]) > number:
+                    os.remove(os.path.join(self.folder, name))
+            if not number:
+                return
+            path = os.path.join(self.folder, "%06d.jsonl" % number)
+            descriptor = os.open(path, os.O_RDWR)
+            if os.fstat(descriptor).st_size < size:
+                os.close(descriptor)
+                raise LogFault("%s was cut; begin another folder" % path)
+            os.ftruncate(descriptor, size)
+            with open(path, "rb") as file:
+                self._begin_counts()
+                for raw in file:
+                    self.hash.update(raw)
+                    self.count += 1
+            self.number, self.size, self.descriptor = number, size, descriptor
+        except OSError as fault:
+            raise LogFault("%s: %s" % (fault.filename, fault.strerror)) from None
+
     # Lines
 
     def add(self, data: bytes, goes_on: bool = False) -> None:

@@ -14,6 +14,8 @@ SILENT = 5.0
 PATIENCE = 5.0
 ROOM = 64 << 10
 TYPE = "text/plain; version=0.0.4; charset=utf-8"
+# A page names users: it is kept nowhere, and stands in no other page.
+HTML = "text/html; charset=utf-8\r\nCache-Control: no-store\r\nX-Frame-Options: DENY\r\nReferrer-Policy: no-referrer"
 
 
 class Status(NamedTuple):
@@ -117,11 +119,11 @@ def exposition(reader: StatusReader, seen: Seen, now: float) -> str:
 
 
 class MetricsServer:
-    """Answers GET of /health and /metrics. `words` are said where it is well, and where it is not."""
+    """Answers GET of /health and /metrics, and of / where there is a page. `words` are said where it is well, and where it is not."""
 
     def __init__(self, is_well: Callable[[], bool], numbers: Callable[[], str],
-                 words: tuple[str, str] = ("recording", "not recording; requests pass")):
-        self.is_well, self.numbers, self.words = is_well, numbers, words
+                 words: tuple[str, str] = ("recording", "not recording; requests pass"), page: Optional[Callable[[], str]] = None):
+        self.is_well, self.numbers, self.words, self.page = is_well, numbers, words, page
         self.server: Any = None
 
     async def serve(self, host: str, port: int) -> None:
@@ -142,13 +144,15 @@ class MetricsServer:
 
     def answer(self, line: str) -> bytes:
         method, _, rest = line.partition(" ")
-        path = rest.partition(" ")[0].partition("?")[0]
-        if method not in ("GET", "HEAD") or path not in ("/health", "/metrics"):
-            status, body = "404 Not Found", "there are /health and /metrics\n"
+        path, kind = rest.partition(" ")[0].partition("?")[0], TYPE
+        if method not in ("GET", "HEAD") or path not in ("/health", "/metrics") and (path != "/" or self.page is None):
+            status, body = "404 Not Found", "there are %s/health and /metrics\n" % ("" if self.page is None else "/, ")
         elif path == "/metrics":
             status, body = "200 OK", self.numbers()
+        elif path == "/" and self.page is not None:
+            status, body, kind = "200 OK", self.page(), HTML
         else:
             is_well = self.is_well()
             status, body = "200 OK" if is_well else "503 Service Unavailable", self.words[not is_well] + "\n"
-        head = "HTTP/1.1 %s\r\nContent-Type: %s\r\nContent-Length: %d\r\nConnection: close\r\n\r\n" % (status, TYPE, len(body.encode()))
+        head = "HTTP/1.1 %s\r\nContent-Type: %s\r\nContent-Length: %d\r\nConnection: close\r\n\r\n" % (status, kind, len(body.encode()))
         return (head + ("" if method == "HEAD" else body)).encode()

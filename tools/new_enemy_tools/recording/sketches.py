@@ -101,12 +101,21 @@ class Sketch:
         self.unsure: list[tuple[int, int]] = []
         self._pending: list[Value] = []
         self._rules_change: Optional[Change] = None
-        for row in given.rows():
-            self._take(row)
-        if self.rules is None or self.is_base:
-            raise JoinFault("%s has no base state; give the whole log, from its first file on" % given.name)
 
-    def _take(self, row: Row) -> None:
+    def read(self) -> "Sketch":
+        """Takes the whole log; raises JoinFault."""
+        for row in self.given.rows():
+            self.take(row)
+        if not self.is_begun:
+            raise JoinFault("%s has no base state; give the whole log, from its first file on" % self.given.name)
+        return self
+
+    @property
+    def is_begun(self) -> bool:
+        """Whether its base state is whole."""
+        return self.rules is not None and not self.is_base
+
+    def take(self, row: Row) -> None:
         value, event = row.value, row.value["event"]
         if event != "write":
             # The time of a write is the service's.
