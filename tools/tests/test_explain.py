@@ -15,7 +15,7 @@ from new_enemy_tools import limits
 from new_enemy_tools.evidence import check_evidence, records_of
 from new_enemy_tools.files import split_joined
 from new_enemy_tools.judging import judge
-from new_enemy_tools.meaning import Settled
+from new_enemy_tools.meaning import Known, Settled, holds
 from new_enemy_tools.order import order_lines
 from new_enemy_tools.reasons import Reasons
 from new_enemy_tools.texts import Tuple
@@ -327,6 +327,18 @@ class Ways(Case):
                     self.follow(trace, one.goal, at, Reasons(Settled(trace.rules, trace.store, one.goal, at), one.goal.set).of_goal(), seen, ())
         for kind in ("stored", "absent", "in", "not in", "taken", "above"):
             self.assertGreater(seen[kind], 0, seen)
+
+    def test_a_goal_that_is_settled_at_once_is_as_one_that_is_gone_through(self):
+        seen, at_once = Counter(), 0
+        for number in range(RANDOM_TRACES):
+            trace = read_trace(b"\n".join(ChangingInput(Random("at once %d" % number), 40).lines()))
+            for one in trace.entries.values():
+                for at in (one.snapshot, one.snapshot // 2):
+                    wanted = Settled(trace.rules, trace.store, one.goal, at).holds()
+                    self.assertEqual(holds(trace.rules, trace.store, one.goal, at), wanted)
+                    seen[wanted] += 1
+                    at_once += Known(trace.rules, trace.store, one.goal.user, at).of_rule(one.goal.set) is not None
+        self.assertGreater(min(seen[True], seen[False], at_once, sum(seen.values()) - at_once), RANDOM_TRACES // 2)
 
     def follow(self, trace, goal, at, reason, seen, path):
         self.assertEqual(reason.holds, Settled(trace.rules, trace.store, Tuple(reason.of, goal.user), at).holds())

@@ -216,6 +216,26 @@ class BesideSeveral(Monitoring, OpenFgaLoaded):
         self.assertIn("the runs before are of one log that was not joined", self.get("monitor.err"))
 
 
+    def test_what_was_joined_and_not_kept_is_cut(self):
+        """A monitor that was killed joins anew what it had joined since its last run, and nobody reads the rest."""
+        for name in ("left", "right"):
+            rows = test_joining.lines(test_joining.change(1, "a"), test_joining.check(1, 3), test_joining.change(2, "b"))
+            self.put_log(files_of([rows[1], *rows[2:]], []), name)
+        self.ends(self.several("--once"))
+        self.assertEqual(json.loads(self.get("out/days/day000001/summary.json"))["entries"], 2)
+        kept, number = self.get("out/joined/000001.jsonl"), json.loads(self.get("out/joined.json"))
+        self.assertEqual((number["number"], number["size"]), (1, len(kept)))
+        self.put("out/joined/000001.jsonl", kept + '{"event":"check","goal":["document","d","viewer","user","z"],"snapshot":2,"reply":true}\n')
+        self.put("out/joined/000002.jsonl", "no line\n")
+        self.ends(self.several("--once"))
+        self.assertEqual(self.get("out/joined/000001.jsonl"), kept)
+        self.assertEqual(sorted(os.listdir(self.path("out/joined"))), ["000001.jsonl"])
+        self.assertEqual(sorted(os.listdir(self.path("out/days"))), ["day000001", "lock"])
+        self.put("out/joined/000001.jsonl", kept[:-10])
+        self.ends(self.several("--once"), 5)
+        self.assertIn("out/joined/000001.jsonl was cut; begin another folder", self.get("monitor.err"))
+
+
 class Growing(Monitoring):
     """Over logs that grow as this writes them."""
 

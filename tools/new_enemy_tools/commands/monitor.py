@@ -12,6 +12,7 @@ It ends with status 0 at SIGTERM, and goes on where it was when it is started ag
 where something is refused, which is told as an alert too, and 5 where a file or a program can't be used.
 """
 import argparse
+import gc
 import os
 import sys
 from argparse import Namespace
@@ -193,6 +194,8 @@ def main(words: list[str]) -> int:
     missing = [log for log in given.logs if not os.path.isdir(log)]
     if missing and (way.several is None or len(missing) == len(given.logs)):
         raise DeviceFault("cannot open %s: it is no folder; give that of a recorder's log (ne record --out)" % missing[0])
+    # Rows make no circles, and there are many of them to look through.
+    gc.set_threshold(50_000, 20, 50)
     return ran(Machine(way), way)
 
 

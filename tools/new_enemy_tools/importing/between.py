@@ -7,7 +7,7 @@ from bisect import bisect_left, bisect_right
 from typing import Iterable, Iterator, NamedTuple, Optional
 
 from new_enemy_tools.importing.commits import Commit, Writer
-from new_enemy_tools.meaning import Settled
+from new_enemy_tools.meaning import holds
 from new_enemy_tools.rules import Declaration, Rules
 from new_enemy_tools.store import Store
 from new_enemy_tools.texts import Tuple
@@ -93,7 +93,7 @@ class States:
             # The earliest that it can be, so that no later check of its version has to see more than there was.
             listed.sort(key=lambda at: (asked.token not in (None, at), at))
         for at in listed:
-            if Settled(self.rules, self.store, asked.goal, at).holds() == asked.reply:
+            if holds(self.rules, self.store, asked.goal, at) == asked.reply:
                 if is_open and self._findings(asked, at, place):
                     break
                 self.right += 1

@@ -19,12 +19,22 @@ def _of_text(text: str) -> Optional[int]:
     if not found:
         return None
     day, clock, fraction, zone = found.groups()
-    zone = "+00:00" if zone in "Zz" else zone
+    whole = _of_second("%sT%s%s" % (day, clock, "+00:00" if zone in "Zz" else zone))
+    return None if whole is None else whole * 1_000_000_000 + int((fraction or "0").ljust(9, "0"))
+
+
+# Of many requests that come in one second it is read once.
+@lru_cache(1 << 10)
+def _of_second(text: str) -> Optional[int]:
     try:
-        whole = datetime.fromisoformat("%sT%s%s" % (day, clock, zone))
+        return (datetime.fromisoformat(text) - EPOCH) // SECOND
     except ValueError:
         return None
-    return (whole - EPOCH) // SECOND * 1_000_000_000 + int((fraction or "0").ljust(9, "0"))
+
+
+@lru_cache(1 << 10)
+def _text_of_second(seconds: int) -> str:
+    return (EPOCH + seconds * SECOND).isoformat()[:SECONDS]
 
 
 def nanoseconds(text: object) -> Optional[int]:
@@ -36,7 +46,7 @@ def text_of_time(at: int) -> str:
     """Nanoseconds since 1970 as a time of RFC 3339 in UTC, without zeros at the end of a fraction."""
     seconds, rest = divmod(at, 1_000_000_000)
     fraction = (".%09d" % rest).rstrip("0") if rest else ""
-    return (EPOCH + seconds * SECOND).isoformat()[:SECONDS] + fraction + "Z"
+    return _text_of_second(seconds) + fraction + "Z"
 
 
 def in_utc(text: str) -> str:

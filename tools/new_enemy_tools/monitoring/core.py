@@ -114,7 +114,8 @@ class Core:
         for row in rows:
             self.next = max(self.next, row.get("next", 0), row.get("alert", 0) + 1)
             self._note(row)
-            self.recent.extend([row["text"]] * ("alert" in row))
+            if "alert" in row:
+                self.recent.append(row["text"])
             for receiver in row.get("to", ()):
                 if row["alert"] > marks.get(receiver, 0):
                     self.delivery.put(Send(receiver, row["alert"], line_of(row["text"])))

@@ -105,11 +105,11 @@ class JoinedLog:
         """`is_first` says that no run was kept."""
         self.several, self.folder, self.path = several, os.path.join(out, FOLDER), os.path.join(out, STATE)
         self.readers = {folder: Reader(folder) for folder in several.folders}
-        self.files: Optional[LogFiles] = None
         self.began, self.next, self.was_new = time.monotonic(), 0.0, False
         os.makedirs(self.folder, exist_ok=True)
         state = self._state(is_first)
         self.length = (state["number"], state["size"])
+        self.files = self._cut()
         before = Before(state["place"], state["changes"], [Taken(*one) for one in state["logs"]])
         self.join = LiveJoin(several.folders, several.skew, hold, before, [(one[0], one[1], one[2]) for one in state["told"]])
 
@@ -154,18 +154,26 @@ class JoinedLog:
         self.was_new = False
         data = b"".join(ENCODE(value).encode() + b"\n" for value in self.join.round(over, now))
         if data:
+            self.files.service = JOINED + str(self.join.service)
             try:
-                self._opened().add(data)
+                self.files.add(data)
             except LogFault as fault:
-                raise DeviceFault("cannot write %s: %s" % (self.folder, fault)) from None
+                raise self._unwritten(fault) from None
         took = time.monotonic() - now
         self.next = now + max(LEAST if self.was_new or not self.join.waiting else LONGEST / 4, took / SHARE)
 
-    def _opened(self) -> LogFiles:
-        if self.files is None:
-            self.files = LogFiles(self.folder, JOINED + str(self.join.service), size=FILE, age=float("inf"))
-            self.files.go_on(*self.length)
-        return self.files
+    def _cut(self) -> LogFiles:
+        """Goes on where the joined log was when it was kept, before anybody reads it."""
+        # Of which service the logs are is known when they are read.
+        files = LogFiles(self.folder, "", size=FILE, age=float("inf"))
+        try:
+            files.go_on(*self.length)
+        except LogFault as fault:
+            raise self._unwritten(fault) from None
+        return files
+
+    def _unwritten(self, fault: LogFault) -> DeviceFault:
+        return DeviceFault("cannot write %s: %s" % (self.folder, fault))
 
     def unjoined(self) -> Unjoined:
         unbegun = tuple(folder for folder, log in self.join.logs.items() if not log.sketch.is_begun)
@@ -173,10 +181,9 @@ class JoinedLog:
 
     def keep(self) -> None:
         """Keeps how far the logs are joined, before a run is kept that has lines of it."""
-        files = self.files
-        if files is not None and files.descriptor is not None:
-            os.fsync(files.descriptor)
-            self.length = (files.number, files.size)
+        if self.files.descriptor is not None:
+            os.fsync(self.files.descriptor)
+            self.length = (self.files.number, self.files.size)
         write_whole(self.path, [json.dumps({"number": self.length[0], "size": self.length[1],
                                             **self.join.before._asdict(), "told": sorted(self.join.told)})])
 
