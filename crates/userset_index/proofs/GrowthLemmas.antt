@@ -418,6 +418,15 @@ begun_whole ds touches v declared grown all timed = record {
   untimed = timed;
 }
 
+-- what is of all declarations is of the first of them
+pub begun_ready : (ds : List Declaration) (touches : List Touch) (v : IndexValue) → IsReady ds touches v → IsBegun ds touches v
+begun_ready ds touches v r = record {
+  few_rules = let all = r.declared in omega (arith, all);
+  few = r.few;
+  grown = subst (λ (rules : List Declaration). IsGrownTo rules (taken_of touches v) v) (sym (take_whole ds v.declared r.declared)) r.grown;
+  untimed = r.untimed;
+}
+
 -- where all was taken, it is an index
 pub whole_of_grown : (ds : List Declaration) (commits : List Commit) (v : IndexValue) → IsGrownTo ds (changelog commits) v → v.is_timed ≡ false
     → IsWhole ds commits v

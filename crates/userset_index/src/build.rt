@@ -76,26 +76,38 @@ pub(crate) fn mark_of(touch: TouchRef<'_>) -> Option<u64>
     }
 }
 
-/// Counts one more touch of a userset, if it is one, that is stored in a userset with this mark.
-fn count_one(counts: &mut Vec<u8>, mark: Option<u64>) {
+/// Counts one more touch of a userset, if it is one, that is stored in a userset with this mark, and says whether that
+/// is crowded now.
+fn count_one(counts: &mut Vec<u8>, mark: Option<u64>) -> bool {
     let Some(mark) = mark else {
-        return;
+        return false;
     };
-    if let Some(count) = counts.get_mut(count_of(mark)) {
-        *count = count.saturating_add(1);
-    }
+    let Some(count) = counts.get_mut(count_of(mark)) else {
+        return false;
+    };
+    *count = count.saturating_add(1);
+    *count > FEW
 }
 
-/// Counts the touches of usersets, by the userset that they are stored in. It goes once over the changelog, and keeps
-/// nothing of a touch: in most traces no userset is crowded.
-pub(crate) fn count_crowds(alloc: Global, chains: &Chains) -> Result<Vec<u8>, AllocError> {
-    let mut counts = vec![in alloc; 0u8; COUNTS]?;
-    for index in 0..usize::MAX {
+/// Counts the touches of usersets that were not counted yet, by the userset that they are stored in, and says whether
+/// one of these is crowded now. It goes once over each touch, and keeps nothing of it: in most traces no userset is
+/// crowded.
+pub(crate) fn count_further(counts: &mut Vec<u8>, counted: &mut usize, chains: &Chains) -> bool {
+    let mut is_any = false;
+    for index in *counted..usize::MAX {
         let Some(touch) = chains.touch(index) else {
             break;
         };
-        count_one(&mut counts, mark_of(touch));
+        is_any = count_one(counts, mark_of(touch)) || is_any;
+        *counted = index + 1;
     }
+    is_any
+}
+
+/// Counts the touches of usersets, by the userset that they are stored in.
+pub(crate) fn count_crowds(alloc: Global, chains: &Chains) -> Result<Vec<u8>, AllocError> {
+    let mut counts = vec![in alloc; 0u8; COUNTS]?;
+    count_further(&mut counts, &mut 0, chains);
     Ok(counts)
 }
 

@@ -1,8 +1,8 @@
 //! An index that grows with a log.
 //!
-//! Each touch of a userset gets its lives as it comes, and those of the touch before it of the same tuple end. All
-//! usersets are crowded in it, and each userset that is stored in another has a life of its own through it, also beside
-//! others of its object.
+//! Until a userset is crowded it only counts. Then it takes the touches that came, and each touch of a userset gets its
+//! lives as it comes, and those of the touch before it of the same tuple end. All usersets are crowded in it then, and
+//! each userset that is stored in another has a life of its own through it, also beside others of its object.
 
 ghost use Rattle.std.specs.Prelude.{◌≡◌, ◌≤◌, ◌+◌, ℕ, true, List, [], Some, length, slice_get, IfOk, IfSome, OnOk};
 ghost use Rattle.tuple_text.specs.Order.{tuple_eq};
@@ -16,7 +16,7 @@ ghost use Rattle.userset_index.specs.Index.{IsMark, IsUsersetIndex};
 ghost use Rattle.userset_index.specs.declared.growth.TheConstants.{LAST};
 ghost use Rattle.userset_index.specs.declared.life.Way.TheVariants.{Object};
 
-use crate::build::{COUNTS, life_of, mark_of, touches_rise};
+use crate::build::{COUNTS, count_further, life_of, mark_of, touches_rise};
 use crate::index::UsersetIndex;
 use crate::life::{Life, Way};
 use crate::moments::Times;
@@ -30,12 +30,13 @@ use version_chains::{Chains, TouchRef};
 /// The last timestamp that there is.
 const LAST: u64 = u64::MAX;
 
-/// Whether an index grows with a log; and of how many declarations it is then, and of each touch where its lives stand:
-/// places count from 1, and 0 is none.
+/// Whether an index grows with a log; and of how many declarations it is then, how many touches were counted before any
+/// userset was crowded, and of each touch that was taken where its lives stand: places count from 1, and 0 is none.
 #[derive(Drop)]
 pub(crate) struct Growth {
     pub(crate) is_growing: bool,
     pub(crate) declared: usize,
+    pub(crate) counted: usize,
     pub(crate) own: Vec<u32>,
     pub(crate) through: Vec<u32>,
     pub(crate) objects: Vec<u32>,
@@ -50,6 +51,7 @@ impl Growth {
         Growth {
             is_growing,
             declared,
+            counted: 0,
             own: Vec::new(alloc),
             through: Vec::new(alloc),
             objects: Vec::new(alloc),
@@ -134,9 +136,8 @@ impl UsersetIndex {
         ensures { IfOk result (λ v. (touches : List Touch) → IsReady rules.now touches v) }
     {
         Ok(UsersetIndex {
-            is_whole: true,
-            // all are crowded
-            crowds: vec![in alloc; u8::MAX; COUNTS]?,
+            is_whole: false,
+            crowds: vec![in alloc; 0u8; COUNTS]?,
             own: Spans::new(alloc),
             through: Spans::new(alloc),
             objects: Spans::new(alloc),
@@ -224,21 +225,44 @@ impl UsersetIndex {
         }
     }
 
-    /// Grows with a log, of which it is an index then, or none. Where the rules have changed it is made anew, which is at
-    /// most 4,096 times in a trace. Where memory runs out it is none any more.
+    /// Counts the touches that came since, until a userset is crowded: from then on it is whole, and all are crowded.
+    fn begin(&mut self, chains: &Chains)
+        ensures { (ds : List Declaration) (touches : List Touch) → IsReady ds touches self.old
+            → IsReady ds touches self.new }
+    {
+        if !self.is_whole && count_further(&mut self.crowds, &mut self.growth.counted, chains) {
+            self.is_whole = true;
+            self.crowds.fill(u8::MAX);
+        }
+    }
+
+    /// Grows with a log of the rules that it is of.
+    fn grow_further(&mut self, alloc: Global, chains: &Chains, rules: &Rules)
+        requires { IsReady rules.now (changelog chains.now.commits) self.old }
+        ensures index { IsUsersetIndex rules.now chains.now.commits self.new }
+        ensures grows { IsGrowing rules.now chains.now.commits self.new }
+    {
+        self.begin(chains);
+        if !self.is_whole {
+            return;
+        }
+        match self.take_all(chains, rules) {
+            Ok(()) => {}
+            Err(_) => *self = UsersetIndex::new(alloc),
+        }
+    }
+
+    /// Grows with a log, of which it is an index then, or none. It is none until a userset is crowded. Where the rules
+    /// have changed it is made anew, which is at most 4,096 times in a trace. Where memory runs out it is none any more.
     pub fn grow(&mut self, alloc: Global, chains: &Chains, rules: &Rules)
         requires { IsGrowing rules.now chains.now.commits self.old }
         ensures index { IsUsersetIndex rules.now chains.now.commits self.new }
         ensures grows { IsGrowing rules.now chains.now.commits self.new }
     {
         self.renew(alloc, rules);
-        if !self.growth.is_growing {
-            *self = UsersetIndex::new(alloc);
-            return;
-        }
-        match self.take_all(chains, rules) {
-            Ok(()) => {}
-            Err(_) => *self = UsersetIndex::new(alloc),
+        match self.growth.is_growing {
+            true => self.grow_further(alloc, chains, rules),
+            false => *self = UsersetIndex::new(alloc),
         }
     }
 }
