@@ -1,0 +1,5 @@
+pub mod CarryLaws
+pub mod FieldLaws
+pub mod Loop
+pub mod Numbers
+pub mod Opened
