@@ -3,5 +3,4 @@ pub mod FollowerLemmas
 pub mod GrownLemmas
 pub mod IndexLemmas
 pub mod MadeLemmas
-pub mod OpenLemmas
 pub mod RunLemmas

@@ -1,18 +1,14 @@
 -- What a heartbeat says of a log.
-use Rattle.std.specs.Prelude.{◌≡◌, ℕ, ◌<◌, ◌≤◌, List, [], ◌∷◌, ◌++◌, All, filter, length, not, slice_get, Option, Some}
+use Rattle.std.specs.Prelude.{◌≡◌, ℕ, ◌<◌, ◌≤◌, List, [], ◌∷◌, ◌++◌, All, length, slice_get, Option, Some}
 use Rattle.trace_lines.specs.Values.{EntryValue, TraceValue}
 use Rattle.findings.specs.declared.finding.Finding.{Finding}
-use Rattle.windows.specs.Growth.{IsSettled, is_settled}
+use Rattle.windows.specs.Growth.{IsSettled}
 use Rattle.follow.specs.Pieces.{Piece, told_in}
 use Rattle.follow.specs.declared.heartbeat.Heartbeat.{Heartbeat}
 
 -- some commit is at or above the snapshot of each of the first n entries
 abbrev pub AreSettledTo : TraceValue → ℕ → Type 0
 AreSettledTo t n = (i : ℕ) (e : EntryValue) → slice_get t.entries i ≡ Some e → i < n → IsSettled t e
-
--- how many entries are not settled
-abbrev pub open_in : TraceValue → ℕ
-open_in t = length (filter (λ e. not (is_settled t e)) t.entries)
 
 -- all entries up to a line are settled, and there are so many
 pub record IsThrough (t : TraceValue) (line entries : ℕ) : Type 0 where
@@ -27,7 +23,6 @@ pub record Beats (t : TraceValue) (told : List Finding) (line : Option ℕ) (h :
   pub within : h.line ≤ last
   pub through : IsThrough t h.line h.entries
   pub findings : h.findings ≡ length told
-  pub unsettled : h.open ≡ open_in t
 
 -- True of a log of which this was told before it, and this behind it: the entries up to its line are settled, and so
 -- many; so many findings were told; and what is told behind it is on none of these entries. So what was told of them is

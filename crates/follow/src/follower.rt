@@ -3,8 +3,8 @@
 ghost use Rattle.std.specs.Prelude.{◌≡◌, ◌≤◌, [], length, IfOk, IfSome, string_bytes};
 ghost use Rattle.trace_lines.specs.Values.{TraceValue};
 ghost use Rattle.audit.specs.Audit.{verdict_of};
-ghost use Rattle.monitor.specs.Standing.{IsAtEnd, Stands};
-ghost use Rattle.follow.specs.Heartbeats.{AreSettledTo, Beats, IsThrough, open_in};
+ghost use Rattle.monitor.specs.Standing.{IsAtEnd};
+ghost use Rattle.follow.specs.Heartbeats.{AreSettledTo, Beats, IsThrough};
 ghost use Rattle.follow.specs.SoFar.{IsFollowed, TellsPiece, TellsRest};
 
 use crate::heartbeat::{Heartbeat, push_heartbeat, settled_from};
@@ -57,27 +57,16 @@ impl Follower {
         judge.resume(self.alloc, trace)
     }
 
-    /// How many entries are not settled, where all were taken.
-    fn open_entries(&self, trace: &Trace) -> usize
-        requires stands { Stands trace.now self.now.monitor }
-        requires all { IsAtEnd trace.now self.now.monitor }
-        ensures { result ≡ open_in trace.now }
-    {
-        self.monitor.waiting.len()
-    }
-
     /// How far the log is settled, where the number of its last line is given, up to which all was taken, and any entry
     /// was settled since the last heartbeat.
     fn heartbeat(&mut self, trace: &Trace, line: Option<u64>) -> Option<Heartbeat>
         requires followed { IsFollowed trace.now self.old }
-        requires all { IsAtEnd trace.now self.old.monitor }
         ensures followed { IsFollowed trace.now self.new }
         ensures same { (self.new.monitor ≡ self.old.monitor) × (self.new.told ≡ self.old.told) }
         ensures beats { IfSome result (Beats trace.now self.old.told.items line) }
     {
         let line = line?;
-        let waiting = self.open_entries(trace);
-        let judged = trace.len().saturating_sub(waiting);
+        let judged = trace.len().saturating_sub(self.monitor.waiting.len());
         if judged <= self.beaten {
             return None;
         }
@@ -87,7 +76,7 @@ impl Follower {
             line: last_settled_line(trace, self.settled, line)?,
             entries: self.settled as u64,
             findings: self.told.len() as u64,
-            open: waiting as u64,
+            open: self.monitor.waiting.len() as u64,
         })
     }
 

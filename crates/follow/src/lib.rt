@@ -12,7 +12,7 @@
 //! fault what went out before is told of the lines that had come (`IsToldOf`), and so stands among the findings on
 //! each longer log (`follow_laws::laws::told_is_true`). A heartbeat is true of the lines that had come and of each
 //! longer log: up to its line all entries are settled, and of none of them anything is told behind it
-//! (`specs/Heartbeats.antt`); how many are open is true of the lines that had come.
+//! (`specs/Heartbeats.antt`).
 //!
 //! ```text
 //! let verdict = follow(alloc, &mut trace, &mut out, true)?;
