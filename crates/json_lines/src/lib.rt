@@ -9,8 +9,7 @@
 //! fault with its line, also of a reader that fails. A refusal holds of every input that begins with these bytes. A
 //! line has at most 2^20 bytes and the input 2^30, so that input that never ends is refused. Lines of spaces, tabs
 //! and carriage returns alone are skipped and counted. There is one pass over the input, with one line of JSON at a
-//! time. Who wants a line at a time asks a [`LineReader`], of which `read_lines` is a loop: it asks the reader for more
-//! only where no whole line is at hand.
+//! time.
 //!
 //! ```text
 //! let mut trace = Trace::new(alloc);
