@@ -311,7 +311,7 @@ class Growing(Monitoring):
         self.stop(one)
         self.ends(self.monitor("--once", "--day-bytes", "8192", "--keep-snapshots", "100", log="grown", out="often",
                                told="often.told"))
-        self.assertGreater(len(os.listdir(self.path("often/days"))), 5)
+        self.assertGreater(len(os.listdir(self.path("often/days"))), 3)
         self.assertEqual({(place.replace("grown", "log"), finding) for place, finding,
                           *_ in self.days_told("often/days")}, wanted)
         # `ne day` does not go on in the middle of a file.
