@@ -17,7 +17,7 @@ use Rattle.namespaces.specs.Lookup.{relations_of, relation_of, relation_count, r
 use Rattle.namespaces.specs.WellFormed.{IsWellFormed}
 use Rattle.namespaces.proofs.Declared.{numbered}
 use Rattle.rewrites.proofs.Names.{by_bool, one_name, same_name, and_true, clash}
-use Rattle.namespaces.proofs.Numbers.{item_at-place}
+use Rattle.namespaces.proofs.Numbering.{item_at-place}
 use Rattle.strata.specs.Edges.{places, stratum_numbered, is_broken_between}
 use Rattle.strata.proofs.LastDeclared as last
 use Rattle.strata.proofs.LastDeclared.{names_kept, relations_last}

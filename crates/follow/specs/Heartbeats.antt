@@ -3,6 +3,7 @@ use Rattle.std.specs.Prelude.{◌≡◌, ℕ, ◌<◌, ◌≤◌, List, [], ◌�
 use Rattle.trace_lines.specs.Values.{EntryValue, TraceValue}
 use Rattle.findings.specs.declared.finding.Finding.{Finding}
 use Rattle.windows.specs.Growth.{IsSettled}
+use Rattle.monitor.specs.Standing.{open_entries}
 use Rattle.follow.specs.Pieces.{Piece, told_in}
 use Rattle.follow.specs.declared.heartbeat.Heartbeat.{Heartbeat}
 
@@ -23,6 +24,7 @@ pub record Beats (t : TraceValue) (told : List Finding) (line : Option ℕ) (h :
   pub within : h.line ≤ last
   pub through : IsThrough t h.line h.entries
   pub findings : h.findings ≡ length told
+  pub waiting : h.open ≡ length (open_entries t)
 
 -- True of a log of which this was told before it, and this behind it: the entries up to its line are settled, and so
 -- many; so many findings were told; and what is told behind it is on none of these entries. So what was told of them is

@@ -61,6 +61,7 @@ impl Follower {
     /// was settled since the last heartbeat.
     fn heartbeat(&mut self, trace: &Trace, line: Option<u64>) -> Option<Heartbeat>
         requires followed { IsFollowed trace.now self.old }
+        requires all { IsAtEnd trace.now self.old.monitor }
         ensures followed { IsFollowed trace.now self.new }
         ensures same { (self.new.monitor ≡ self.old.monitor) × (self.new.told ≡ self.old.told) }
         ensures beats { IfSome result (Beats trace.now self.old.told.items line) }
@@ -76,7 +77,7 @@ impl Follower {
             line: last_settled_line(trace, self.settled, line)?,
             entries: self.settled as u64,
             findings: self.told.len() as u64,
-            open: self.monitor.waiting.len() as u64,
+            open: self.monitor.count_open(trace) as u64,
         })
     }
 

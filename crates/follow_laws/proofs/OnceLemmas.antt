@@ -182,7 +182,7 @@ module _ (t : TraceValue) (evidence : List (Option (List StepValue))) where
 abbrev IsWithin : ℕ → Option ℕ → Type 0
 IsWithin n m = (is_before n m || is_none m) ≡ true
 
-below_last : (ls : List ℕ) → IsStrictlyIncreasing ls → AllByRecursion (λ l. l < after_last ls) ls
+pub below_last : (ls : List ℕ) → IsStrictlyIncreasing ls → AllByRecursion (λ l. l < after_last ls) ls
 below_last [] rising = tt
 below_last (x ∷ xs) rising =
     recursion_from_All (λ (l : ℕ). l < after_last (x ∷ xs)) (x ∷ xs) (λ k d lt.
@@ -245,7 +245,7 @@ module _ (t : TraceValue) (good : IsOfBytes t) where
       good.rising.commits.lines)
 
   module _ (e : EntryValue) (own : e.line < after_last (entry_lines t.entries)) where
-    opened_within : (l : ℕ) → open_snapshot t e ≡ Some l → l < next_line t
+    pub opened_within : (l : ℕ) → open_snapshot t e ≡ Some l → l < next_line t
     opened_within l is =
         let lt = first_within (after_last t.commit_lines) (λ c. ltb e.line c.line) (λ c. ltb e.line c.line)
         (commit_lines_of t) commits_within _ l is in

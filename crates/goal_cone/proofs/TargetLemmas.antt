@@ -12,8 +12,8 @@ use Rattle.tuple_text.specs.Sets.{SetValue}
 use Rattle.namespaces.specs.Lookup.{Rule, namespace_names, place_of}
 use Rattle.strata.proofs.Lists.{Contains-cons_cases, Contains-here, Contains-there, not_in_nil}
 use Rattle.strata.specs.Meaning.{with_relation}
-use Rattle.userset_index.specs.Numbers.{Has}
-use Rattle.userset_index.specs.declared.numbers.Numbers.{Numbers}
+use Rattle.namespaces.specs.Numbers.{Has}
+use Rattle.namespaces.specs.declared.number_set.Numbers.{Numbers}
 use Rattle.snapshots.specs.Leading.{AreAll, AreLeadingThrough, AreStored, IsNumbered}
 use Rattle.snapshots.specs.Snapshots.{rules_in, tuples_in}
 use Rattle.snapshots.specs.declared.snapshot.Snapshot.{Snapshot}

@@ -10,12 +10,11 @@ ghost use Rattle.rewrites.specs.Plain.{leaves};
 ghost use Rattle.rewrites.specs.View.{expression_of};
 ghost use Rattle.goal_cone.specs.Leaves.{Grows, HaveLeavesOf, IsNoted, numbered, read_shown};
 
-use namespaces::{RulePlace, Rules};
+use namespaces::{Numbers, RulePlace, Rules};
 use rewrites::{Part, Rewrite, Through};
 use std::alloc::{AllocError, Global};
 use std::collections::BTreeMap;
 use std::marker::Model;
-use userset_index::Numbers;
 use wide_rules::namespaces_declaring;
 
 /// A part of a rule, and, where it reads through a tupleset, the namespaces that ever declare a relation that it reads

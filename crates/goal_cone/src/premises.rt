@@ -20,11 +20,11 @@ use crate::seen::Seen;
 use crate::through::targets;
 use judgement::under;
 use marks::MarkedSet;
+use namespaces::Numbers;
 use rewrites::{Part, Rewrite, Through};
 use snapshots::Snapshot;
 use std::alloc::Global;
 use tuple_text::{Fact, SetRef, TupleFault};
-use userset_index::Numbers;
 use wide_rules::namespaces_declaring;
 
 /// How many facts a cone may have.

@@ -11,18 +11,17 @@ ghost use Rattle.strata.specs.Meaning.{with_relation, IsStored};
 ghost use Rattle.snapshots.specs.Leading.{IsNumbered};
 ghost use Rattle.snapshots.specs.Snapshots.{rules_in, tuples_in};
 ghost use Rattle.judgement.specs.StoredIn.{HaveStored};
-ghost use Rattle.userset_index.specs.Numbers.{Has};
+ghost use Rattle.namespaces.specs.Numbers.{Has};
 ghost use Rattle.wide_rules.specs.Declaring.{DeclaresNone, HaveDeclaring};
 ghost use Rattle.goal_cone.specs.Targets.{AreObjects, AreRead, AreTargets, AreWanted, targets_under};
 
 use judgement::{is_absent, stored_in, under};
 use marks::MarkedSet;
-use namespaces::{MAX_NUMBER, Rules};
+use namespaces::{MAX_NUMBER, Numbers, Rules};
 use rewrites::Through;
 use snapshots::Snapshot;
 use std::alloc::{AllocError, Global};
 use tuple_text::SetRef;
-use userset_index::Numbers;
 
 /// The relation that is read at a place, where a namespace declares it at a timestamp.
 pub(crate) fn declared_at<'s>(

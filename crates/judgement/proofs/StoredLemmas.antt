@@ -6,7 +6,7 @@ use Rattle.tuple_text.specs.Tuples.{TupleValue, tuple_of}
 use Rattle.tuple_text.specs.declared.users.User.TheVariants.{Set}
 use Rattle.version_chains.proofs.StoreLemmas.{store_at-iff}
 use Rattle.userset_index.specs.Index.{AreNamespaces, IndexValue, IsUsersetIndex}
-use Rattle.userset_index.specs.declared.numbers.Numbers.{Numbers}
+use Rattle.namespaces.specs.declared.number_set.Numbers.{Numbers}
 use Rattle.userset_index.proofs.CallerLemmas.{stored_by_touch}
 use Rattle.snapshots.specs.declared.snapshot.Snapshot.{Snapshot}
 use Rattle.judgement.specs.StoredIn.{HaveStored}

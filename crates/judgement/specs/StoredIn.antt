@@ -4,8 +4,8 @@ use Rattle.tuple_text.specs.Sets.{SetValue}
 use Rattle.tuple_text.specs.declared.users.User.TheVariants.{Set}
 use Rattle.namespaces.specs.Lookup.{namespace_names, place_of}
 use Rattle.strata.specs.Meaning.{IsStored}
-use Rattle.userset_index.specs.Numbers.{Has}
-use Rattle.userset_index.specs.declared.numbers.Numbers.{Numbers}
+use Rattle.namespaces.specs.Numbers.{Has}
+use Rattle.namespaces.specs.declared.number_set.Numbers.{Numbers}
 use Rattle.snapshots.specs.Snapshots.{tuples_in}
 use Rattle.snapshots.specs.declared.snapshot.Snapshot.{Snapshot}
 

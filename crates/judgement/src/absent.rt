@@ -2,12 +2,12 @@
 
 ghost use Rattle.std.specs.Prelude.{◌≡◌, true, IfSome, IsSomeAnd};
 ghost use Rattle.tuple_text.specs.Refs.{set_value};
-ghost use Rattle.userset_index.specs.Numbers.{Has};
+ghost use Rattle.namespaces.specs.Numbers.{Has};
 ghost use Rattle.judgement.specs.StoredIn.{HaveStored};
 
 use marks::MarkedSet;
+use namespaces::Numbers;
 use snapshots::Snapshot;
-use userset_index::Numbers;
 
 /// The namespaces of the usersets that are stored in a set, and maybe others. `None` where that was not noted.
 pub fn stored_in(snapshot: &Snapshot<'_>, set: MarkedSet<'_>) -> Option<Numbers>

@@ -12,6 +12,7 @@ use Rattle.version_chains.specs.Commits.{Commit}
 use Rattle.trace_lines.specs.Placed.{AreInPlace}
 use Rattle.trace_lines.specs.Values.{EntryValue, TraceValue, after_last}
 use Rattle.windows.specs.Growth.{GoesOn}
+use Rattle.windows.proofs.GrownLemmas.{behind}
 use Rattle.monitor.specs.Standing.{IsReached, Stands, line_of, time_of}
 use Rattle.monitor.specs.declared.monitor.Monitor.{Monitor}
 use Rattle.monitor.proofs.CommitLemmas.{line_later}
@@ -25,13 +26,6 @@ below_last ns rising j lt =
       | inl before ↦ let up = AllPairs-from_increasing ns rising j (length ns - 1) 0 before (omega (arith, lt)) in omega (arith, up)
       | inr at ↦ let same = ap (λ (n : ℕ). get_or ns n 0) (let e : j ≡ length ns - 1 = omega (arith, lt, at) in e) in omega (arith, same)
     ])
-
--- of what stands behind others
-pub behind : {X : Type 0} (P : X → Type 0) (xs ys : List X) → All P ys → (i : ℕ) (x : X) → length xs ≤ i
-    → slice_get (xs ++ ys) i ≡ Some x → P x
-behind P [] ys all i x le at = subst P (get_or_from_slice_get ys i x x at) (all i x (slice_get_within ys i x at))
-behind P (y ∷ xs) ys all zero x le at = absurd (omega (arith, le))
-behind P (y ∷ xs) ys all (suc i) x le at = behind P xs ys all i x (omega (arith, le)) at
 
 module _ {k : ℕ} (t u : TraceValue) (goes : GoesOn k t u) (old : AreInPlace t) (new : AreInPlace u) where
   more_entries : length t.entries ≤ length u.entries

@@ -1,6 +1,7 @@
 pub mod CommitLemmas
 pub mod GrowthLemmas
 pub mod LongerLemmas
+pub mod OpenLemmas
 pub mod PastLemmas
 pub mod RunLemmas
 pub mod StandingLemmas

@@ -19,7 +19,8 @@ use Rattle.follow_laws.proofs.StaysLemmas.{stays_law}
 use Rattle.monitor.specs.SoFar.{AreAllowedBefore, IsTold, IsUpTo}
 use Rattle.monitor.specs.Standing.{IsAtEnd, line_of}
 use Rattle.monitor.specs.declared.monitor.Monitor.{Monitor}
-use Rattle.monitor.proofs.GrowthLemmas.{behind, below_last, same_entry, same_line}
+use Rattle.windows.proofs.GrownLemmas.{behind}
+use Rattle.monitor.proofs.GrowthLemmas.{below_last, same_entry, same_line}
 use Rattle.monitor.proofs.RunLemmas.{quiet, settled_apart}
 
 -- an entry is not settled before its line

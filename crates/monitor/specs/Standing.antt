@@ -1,8 +1,9 @@
 -- Where a monitor stands between two lines of a trace.
-use Rattle.std.specs.Prelude.{◌≡◌, ℕ, ◌+◌, ◌<◌, ◌≤◌, ◌⊎◌, List, All, length, map, get_or, slice_get, Contains, Option, Some, None}
+use Rattle.std.specs.Prelude.{◌≡◌, ℕ, ◌+◌, ◌<◌, ◌≤◌, ◌⊎◌, not, List, All, filter, length, map, get_or, slice_get, Contains, Option, Some, None}
 use Rattle.version_chains.specs.Commits.{Commit}
 use Rattle.trace_lines.specs.Values.{EntryValue, TraceValue}
 use Rattle.findings.specs.declared.finding.Finding.{Finding}
+use Rattle.windows.specs.Growth.{is_settled}
 use Rattle.monitor.specs.declared.monitor.Monitor.{Monitor}
 
 -- the timestamp of commit c, and its line
@@ -74,6 +75,10 @@ AreBehind t m told = (n : ℕ) → IsPast t m n → All (λ f. n < f.line) told
 pub record IsAtEnd (t : TraceValue) (m : Monitor) : Type 0 where
   pub entries : m.entries ≡ length t.entries
   pub commits : m.commits ≡ length t.commits
+
+-- the entries that are not settled
+abbrev pub open_entries : TraceValue → List EntryValue
+open_entries t = filter (λ e. not (is_settled t e)) t.entries
 
 -- entries of these numbers stand on lines before that of commit c
 abbrev pub StandBefore : TraceValue → ℕ → List ℕ → Type 0

@@ -2,7 +2,7 @@
 
 ghost use Rattle.std.specs.Prelude.{◌≡◌, ◌<◌, ◌≤◌, ◌+◌, ◌^◌, true, false, length, slice_get, is_none, [], ◌∷◌, None, Some, IfOk, IfSome, OnOk};
 ghost use Rattle.trace_lines.specs.Values.{EntryValue, TraceValue};
-ghost use Rattle.monitor.specs.Standing.{AreToBeTold, IsAtEnd, IsCommitNext, IsEntryNext, IsReached, Stands, Takes, TakesCommit, TakesEntry, line_of, time_of};
+ghost use Rattle.monitor.specs.Standing.{AreToBeTold, IsAtEnd, IsCommitNext, IsEntryNext, IsReached, Stands, Takes, TakesCommit, TakesEntry, line_of, open_entries, time_of};
 ghost use Rattle.follow_laws.specs.Told.{is_at};
 ghost use Rattle.monitor.specs.Telling.{IsJudgedIf, Tells, TellsLeft, TellsOf, TellsOfEach, if_names, moment_of, told_at_commit, told_at_end, told_at_once};
 
@@ -234,6 +234,16 @@ impl Monitor {
             fresh: 0,
             waiting: BTreeSet::new(alloc),
         }
+    }
+
+    /// How many entries of a trace, of which all lines were taken, are not settled.
+    pub fn count_open(&self, trace: &Trace) -> usize
+        requires stands { Stands trace.now self.now }
+        requires all { IsAtEnd trace.now self.now }
+        ensures { result ≡ length (open_entries trace.now) }
+    {
+        let _ = trace.len();
+        self.waiting.len()
     }
 
     /// Whether some commit that was taken is at or above the timestamp.

@@ -17,7 +17,7 @@ use Rattle.rewrites.proofs.Names.{by_bool, one_name, and_true}
 use Rattle.namespaces.proofs.Kept.{absent_before}
 use Rattle.namespaces.proofs.Times.{IsKeptIn, newest_keeps, not_named}
 use Rattle.namespaces.proofs.Growth.{is_declared-names}
-use Rattle.namespaces.proofs.Numbers.{item_at-place}
+use Rattle.namespaces.proofs.Numbering.{item_at-place}
 use Rattle.namespaces.proofs.Indexes.{position-map}
 
 -- x stands somewhere in the list
@@ -89,7 +89,7 @@ in_force_placed (d ∷ ds) at q r x h =
 
 -- ---- once declared, for good
 
-named_since : (r : List ℕ) (old new : List Relation) (y : Relation) (o : Option Relation) → keeps_names old new ≡ true → relation_named r old ≡ Some y → relation_named r new ≡ o → (x : Relation) × (o ≡ Some x)
+pub named_since : (r : List ℕ) (old new : List Relation) (y : Relation) (o : Option Relation) → keeps_names old new ≡ true → relation_named r old ≡ Some y → relation_named r new ≡ o → (x : Relation) × (o ≡ Some x)
 named_since r old new y (Some x) names was is = (x, refl)
 named_since r old new y None names was is = let none = absent_before r old new names is in let no : None ≡ Some y = sym none ∙ was in cc
 

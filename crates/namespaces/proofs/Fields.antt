@@ -24,12 +24,11 @@ use Rattle.namespaces.specs.declared.relation.Relation.{Relation}
 use Rattle.namespaces.specs.declared.rules.Line.{Line}
 use Rattle.namespaces.specs.declared.index.Revision.{Revision}
 use Rattle.namespaces.proofs.Tables.{Entry, is_text}
-use Rattle.rewrites.proofs.Names.{none_there}
 use Rattle.namespaces.proofs.Indexes.{IndexEntry, lookup-index_of, lookup-show_index, names-index_of, names-show_index, index_of-push, length-mapped, position-map}
 use Rattle.namespaces.proofs.Revisions.{last_or-slice_get, relations_of-revisions, relations_at-revisions}
 use Rattle.namespaces.proofs.Times.{from_one, relation_at-relations_at}
 use Rattle.namespaces.proofs.Growth.{is_declared-names, change_count-push, each_push}
-use Rattle.namespaces.proofs.Numbers.{item_at-place, same_then}
+use Rattle.namespaces.proofs.Numbering.{item_at-place, same_then}
 
 map-map : {X Y Z : Type 0} (f : X → Y) (g : Y → Z) (o : Option X) → option_map g (option_map f o) ≡ option_map (λ x. g (f x)) o
 map-map f g None = refl
@@ -175,6 +174,10 @@ show_lines-push : (ls : List Line) (l : Line) → show_lines (ls ++ l ∷ []) �
 show_lines-push [] l = refl
 show_lines-push (k ∷ ls) l = ap (λ ds. show_line k ∷ ds) (show_lines-push ls l)
 
+pub shown_put : (lines new_lines : List Line) (l : Line) (ds : List Declaration) → show_lines lines ≡ ds → new_lines ≡ lines ++ l ∷ []
+    → show_lines new_lines ≡ ds ++ show_line l ∷ []
+shown_put lines new_lines l ds shown put = ap show_lines put ∙ show_lines-push lines l ∙ ap (λ cs. cs ++ show_line l ∷ []) shown
+
 -- what is written when a declaration is put last
 pub record IsPut (lines new_lines : List Line) (es new_es : List IndexEntry) (l : Line) (v : Revision) (changes new_changes : ℕ) : Type 0 where
   pub lines_put : new_lines ≡ lines ++ l ∷ []
@@ -186,7 +189,7 @@ pub record IsPut (lines new_lines : List Line) (es new_es : List IndexEntry) (l 
 pub consistent_put : (lines new_lines : List Line) (es new_es : List IndexEntry) (l : Line) (v : Revision) (changes new_changes : ℕ) (ds : List Declaration) → show_lines lines ≡ ds → AreConsistent lines es changes
     → IsWellFormed (ds ++ show_line l ∷ []) → IsPut lines new_lines es new_es l v changes new_changes → AreConsistent new_lines new_es new_changes
 consistent_put lines new_lines es new_es l v changes new_changes ds shown fields w put =
-    let all : show_lines new_lines ≡ ds ++ show_line l ∷ [] = ap show_lines put.lines_put ∙ show_lines-push lines l ∙ ap (λ cs. cs ++ show_line l ∷ []) shown in
+    let all : show_lines new_lines ≡ ds ++ show_line l ∷ [] = shown_put lines new_lines l ds shown put.lines_put in
     let place : v ≡ revision (length ds) (show_line l) = put.place ∙ ap (λ n. revision n (show_line l)) (sym (length-mapped show_line lines) ∙ ap length shown) in
     record {
       well_formed = rw all w;

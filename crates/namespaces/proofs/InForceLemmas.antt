@@ -16,7 +16,7 @@ use Rattle.namespaces.proofs.Times.{relation_at-relations_at}
 
 -- ---- whatever is declared is named
 
-named_in : (r : List ℕ) (rs : List Relation) (x : Relation) → relation_named r rs ≡ Some x → Contains (relation_names rs) r
+pub named_in : (r : List ℕ) (rs : List Relation) (x : Relation) → relation_named r rs ≡ Some x → Contains (relation_names rs) r
 named_in r [] x h = absurd cc
 named_in r (y ∷ ys) x h = by_bool (bytes_eq r y.name)
     (λ t. (0, omega arith, sym (one_name r y.name t)))

@@ -86,7 +86,7 @@ index_after-push es line (c ∷ ds) d =
 pub index_of-push : (ds : List Declaration) (d : Declaration) → index_of (ds ++ d ∷ []) ≡ with_revision d.name (revision (length ds) d) (index_of ds)
 index_of-push ds d = let e : 0 + length ds ≡ length ds = omega arith in rw e at (index_after-push [] 0 ds d)
 
-with_value-twice : {V : Type 0} (i : ℕ) (u w : V) (es : List (String Global × V)) → with_value i w (with_value i u es) ≡ with_value i w es
+pub with_value-twice : {V : Type 0} (i : ℕ) (u w : V) (es : List (String Global × V)) → with_value i w (with_value i u es) ≡ with_value i w es
 with_value-twice i u w [] = refl
 with_value-twice zero u w (e ∷ es) = refl
 with_value-twice (suc i) u w (e ∷ es) = ap (λ r. e ∷ r) (with_value-twice i u w es)

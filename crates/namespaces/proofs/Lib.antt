@@ -1,12 +1,14 @@
 pub mod Copies
 pub mod Declared
+pub mod Declarers
 pub mod Exits
 pub mod Fields
 pub mod Growth
 pub mod InForceLemmas
 pub mod Indexes
 pub mod Kept
-pub mod Numbers
+pub mod Numbering
+pub mod NumberSets
 pub mod Points
 pub mod Repeats
 pub mod Revisions

@@ -3,12 +3,14 @@ pub mod Changing
 pub mod Consistent
 pub mod Declaration
 pub mod DeclarationCode
+pub mod Declaring
 pub mod Drafts
 pub mod Fault
 pub mod InForce
 pub mod Index
 pub mod Kept
 pub mod Lookup
+pub mod Numbers
 pub mod Shape
 pub mod Shown
 pub mod WellFormed

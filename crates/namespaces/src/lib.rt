@@ -5,6 +5,7 @@
 //! on). Contracts see it as the list of its declarations: every accepted value in order, each with its timestamp,
 //! name, and relations (name, stratum, rule). Rules themselves are values of `rewrites`. [`Rules::plain_in`] gives
 //! one in its plain form, which is made once, when it is declared, and with it its parts where it has many places.
+//! [`Rules::declaring`] gives the namespaces that declare a relation of a name, as a set of their [`Numbers`].
 //!
 //! Callers may rely on this: a value is accepted, or refused with the first fault that applies, exactly as the
 //! definitions over its JSON data say, running out of memory apart; after a refusal the rules hold what they held
@@ -21,9 +22,11 @@
 //! ```
 #![tactic(auto)]
 
+mod declaring;
 mod fault;
 mod index;
 mod number;
+mod number_set;
 mod reading;
 mod relation;
 mod rules;
@@ -31,6 +34,7 @@ mod table;
 
 pub use fault::RulesFault;
 pub use number::{MAX_NUMBER, RelNo, RulePlace};
+pub use number_set::Numbers;
 pub use relation::PlainRule;
 pub use rewrites::Rewrite;
 pub use rules::Rules;

@@ -1,17 +1,20 @@
 //! The declared namespaces, by name, by number and at a timestamp.
-ghost use Rattle.std.specs.Prelude.{◌≡◌, ℕ, List, None, Contains, ◌<◌, ◌≤◌, [], ◌∷◌, ◌++◌, length, option_map, option_and_then, slice_get, map, string_bytes, IfSome, IfOk, OnOk, OnErr, IfErr};
+ghost use Rattle.std.specs.Prelude.{◌≡◌, ℕ, List, None, Some, Contains, ◌<◌, ◌≤◌, [], ◌∷◌, ◌++◌, length, option_map, option_and_then, slice_get, map, string_bytes, IfSome, IfOk, OnOk, OnErr, IfErr};
 ghost use Rattle.tuple_text.specs.Refs.{set_value};
 ghost use Rattle.namespaces.specs.Declaration.{declared};
+ghost use Rattle.namespaces.specs.Declaring.{AreDeclarers};
 ghost use Rattle.namespaces.specs.InForce.{names_in_force};
 ghost use Rattle.rewrites.specs.Leaves.{AreLeavesOf};
-ghost use Rattle.namespaces.specs.Lookup.{expression_in, rule_of, rule_at, relation_of, relation_count, relations_of, number_of, place_of, namespace_names, namespace_numbered, relation_numbered, history_numbered};
+ghost use Rattle.namespaces.specs.Lookup.{expression_in, rule_of, rule_at, relation_of, relation_count, relations_of, number_of, place_of, namespace_names, namespace_numbered, relation_numbered, history_numbered, with_name};
 ghost use Rattle.rewrites.specs.Plain.{ArePlain};
 ghost use Rattle.rewrites.specs.View.{expression_of};
 ghost use Rattle.namespaces.specs.WellFormed.{IsWellFormed};
 
+use crate::declaring::{make_places, note_declarers};
 use crate::fault::RulesFault;
 use crate::index::{Revision, note, revision_at, revision_with};
 use crate::number::{MAX_NUMBER, RelNo, RulePlace};
+use crate::number_set::Numbers;
 use crate::reading::{Draft, read_draft};
 use crate::relation::{PlainRule, Relation};
 use crate::table::{Namespace, check_declaration, copied_namespace, keeps_names, keeps_strata};
@@ -42,6 +45,8 @@ pub struct Rules {
     lines: Vec<Line>,
     // each namespace in order of its first declaration, and where its declarations stand
     namespaces: Names<Vec<Revision>>,
+    // which namespaces declare a relation, by its name
+    declaring: Names<Numbers>,
     // how many of the declarations are changes
     changes: u16,
 }
@@ -51,10 +56,12 @@ impl Drop for Rules {
         let Rules {
             lines,
             namespaces,
+            declaring,
             changes: _,
         } = self;
         drop(lines);
         drop(namespaces);
+        drop(declaring);
     }
 }
 
@@ -70,10 +77,12 @@ impl Model for Rules {
 
     ghost use Rattle.namespaces.specs.Shown.{show_lines};
     ghost use Rattle.namespaces.specs.Consistent.{AreConsistent};
+    ghost use Rattle.namespaces.specs.Declaring.{AreAllDeclarers};
 
     ghost view = { λ r. show_lines r.lines.items };
 
-    ghost invariant = { λ r. AreConsistent r.lines.items r.namespaces.entries r.changes };
+    ghost invariant = { λ r. AreConsistent r.lines.items r.namespaces.entries r.changes
+        × AreAllDeclarers r.declaring.entries (show_lines r.lines.items) };
 }
 
 impl Rules {
@@ -93,6 +102,7 @@ impl Rules {
         Rules {
             lines: Vec::new(alloc),
             namespaces: Names::new(alloc),
+            declaring: Names::new(alloc),
             changes: 0,
         }
     }
@@ -318,6 +328,16 @@ impl Rules {
         Some(&relation.rewrite)
     }
 
+    /// The numbers of the namespaces that ever declare a relation of a name. What is declared stays declared.
+    pub fn declaring(&self, relation: &str) -> Numbers
+        ensures { AreDeclarers result relation.now self.now }
+    {
+        match self.declaring.get(relation) {
+            Some(numbers) => *numbers,
+            None => Numbers::none(),
+        }
+    }
+
     /// A copy of the rules.
     fn copy(&self, alloc: Global) -> Result<Rules, RulesFault>
         ensures { Gives (λ rules. rules) result (Ok self.now) }
@@ -472,6 +492,17 @@ impl Rules {
         self.namespaces.contains(namespace)
     }
 
+    /// The number of a namespace, or the next one where it is not declared so far.
+    fn number_for(&self, namespace: &str) -> u16
+        requires { length (with_name (namespace_names self.now) namespace.now) ≤ 256 }
+        ensures { place_of namespace.now (with_name (namespace_names self.now) namespace.now) ≡ Some result }
+    {
+        match self.namespace_number(namespace) {
+            Some(number) => number,
+            None => self.namespaces.len() as u16 + 1,
+        }
+    }
+
     /// Puts a declaration last.
     fn push(
         &mut self,
@@ -490,10 +521,13 @@ impl Rules {
             relations: namespace.relations.len(),
             line: self.lines.len(),
         };
+        let number = self.number_for(namespace.name.as_str());
         let name = namespace.name.clone()?;
         let changes = self.changes + u16::from(is_change);
         self.lines.reserve(1)?;
+        make_places(alloc, &mut self.declaring, &namespace.relations)?;
         note(alloc, &mut self.namespaces, name, revision)?;
+        note_declarers(&mut self.declaring, &namespace.relations, number);
         self.lines.push_reserved(Line {
             at,
             is_change,

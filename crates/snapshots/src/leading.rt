@@ -7,17 +7,17 @@ ghost use Rattle.tuple_text.specs.declared.users.User.TheVariants.{Set};
 ghost use Rattle.namespaces.specs.WellFormed.{IsWellFormed};
 ghost use Rattle.strata.specs.Meaning.{IsStored};
 ghost use Rattle.version_chains.specs.Commits.{changelog};
-ghost use Rattle.userset_index.specs.Numbers.{Has};
+ghost use Rattle.namespaces.specs.Numbers.{Has};
 ghost use Rattle.snapshots.specs.Leading as spec;
 ghost use Rattle.snapshots.specs.Leading.{AreAll, AreLeading, AreLeadingThrough, IsNumbered, sets_by, sets_of};
 ghost use Rattle.snapshots.specs.Snapshots.{tuples_in};
 
 use crate::snapshot::Snapshot;
 use marks::MarkedSet;
-use namespaces::MAX_NUMBER;
+use namespaces::{MAX_NUMBER, Numbers};
 use std::alloc::{AllocError, Global};
 use tuple_text::{SetRef, UserRef};
-use userset_index::{Alive, Numbers, UsersetIndex};
+use userset_index::{Alive, UsersetIndex};
 
 /// Whether a userset is of a namespace, or of any.
 fn is_of(set: SetRef<'_>, namespace: Option<&str>) -> bool

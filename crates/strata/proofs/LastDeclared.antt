@@ -19,7 +19,7 @@ use Rattle.namespaces.proofs.Declared.{IsPlaced, stays_declared, numbered, histo
 use Rattle.namespaces.proofs.Growth.{change_count-push}
 use Rattle.namespaces.proofs.Kept.{named_by_place}
 use Rattle.rewrites.proofs.Names.{by_bool, clash, same_name, one_name, and_true}
-use Rattle.namespaces.proofs.Numbers.{item_at-place}
+use Rattle.namespaces.proofs.Numbering.{item_at-place}
 use Rattle.namespaces.proofs.Times.{IsKeptIn, from_one, newest_keeps}
 use Rattle.strata.specs.declared.edge.Edge.{Edge}
 use Rattle.strata.specs.Edges.{RelationName, Place, places, all_places, at_computed, edge_at, edges_in, relation_edges, relations_in, namespace_edges, last_relation_edges, last_edges, rule_edges, read_by_rule, stratum_numbered, is_broken, first_broken}

@@ -10,7 +10,7 @@ use Rattle.namespaces.specs.Lookup.{history, relation_named, relation_names, rel
 use Rattle.namespaces.specs.WellFormed.{IsWellFormed}
 use Rattle.namespaces.proofs.Declared.{numbered}
 use Rattle.rewrites.proofs.Names.{by_bool, one_name}
-use Rattle.namespaces.proofs.Numbers.{item_at-place}
+use Rattle.namespaces.proofs.Numbering.{item_at-place}
 use Rattle.strata.specs.Edges.{RelationName, Place, at_this, at_computed, at_tuple_to, read_in_userset, read_through, relation_edges, namespace_edges, last_relation_edges, last_edges, userset_edges, last_userset_edges, this_edges, tuple_to_edges, stratum_numbered, first_broken}
 use Rattle.strata.proofs.KeptEdges.{IsKept, rules_same}
 use Rattle.strata.proofs.LastDeclared as last

@@ -10,7 +10,7 @@ use Rattle.namespaces.specs.Adding.{has_repeats}
 use Rattle.namespaces.proofs.Growth.{names_after-push}
 use Rattle.rewrites.proofs.Names.{by_bool, clash, same_name, one_name, other_name, or_false}
 use Rattle.namespaces.proofs.Repeats.{has_repeats-with_name}
-use Rattle.namespaces.proofs.Numbers.{item_at-place}
+use Rattle.namespaces.proofs.Numbering.{item_at-place}
 use Rattle.strata.specs.declared.edge.Edge.{Edge}
 use Rattle.strata.specs.Edges.{RelationName, Place, at_this, at_computed, at_tuple_to, relation_edges, relations_in, namespace_edges, edges_of_namespace, rule_edges, read_by_rule, stratum_numbered, first_broken}
 use Rattle.strata.proofs.KeptEdges.{IsKept, flat_same, rules_same}

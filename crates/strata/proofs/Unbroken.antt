@@ -8,7 +8,7 @@ use Rattle.namespaces.specs.declared.number.RelNo.{RelNo}
 use Rattle.namespaces.specs.Declaration.{Relation, Declaration}
 use Rattle.namespaces.specs.Lookup.{namespace_names, relations_of, namespace_numbered, relation_numbered, history_numbered, number_of, item_at}
 use Rattle.namespaces.proofs.Declared.{IsPlaced}
-use Rattle.namespaces.proofs.Numbers.{item_at-place}
+use Rattle.namespaces.proofs.Numbering.{item_at-place}
 use Rattle.rewrites.proofs.Names.{by_bool}
 use Rattle.strata.specs.declared.edge.Edge.{Edge}
 use Rattle.strata.specs.Edges.{RelationName, Place, places, edge_at, edges_in, relation_edges, relations_in, namespace_edges, rule_edges, read_by_rule, is_broken, first_broken}

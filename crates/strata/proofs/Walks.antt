@@ -13,7 +13,7 @@ use Rattle.namespaces.specs.Lookup.{declared_in, history, relation_named, relati
 use Rattle.namespaces.specs.WellFormed.{IsFit, IsWellFormed}
 use Rattle.namespaces.proofs.Kept.{named_by_place}
 use Rattle.namespaces.proofs.Times.{from_one}
-use Rattle.namespaces.proofs.Numbers.{item_at-place}
+use Rattle.namespaces.proofs.Numbering.{item_at-place}
 use Rattle.std.proofs.lemmas.Option.{slice_get_within}
 pub use Rattle.rewrites.proofs.Walks.{children_step}
 use Rattle.strata.proofs.Unbroken.{item_least, item_there}

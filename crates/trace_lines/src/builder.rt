@@ -194,6 +194,13 @@ impl TraceBuilder {
         }
     }
 
+    /// How many declarations there are.
+    pub fn declared(&self) -> usize
+        ensures { result ≡ length self.now.declarations }
+    {
+        self.rules.len()
+    }
+
     /// An index of its usersets that grows with it, or none.
     pub fn usersets(&self) -> UsersetIndex
         ensures { IsGrowing self.now.declarations self.now.commits result }

@@ -29,14 +29,14 @@ pub(crate) enum ZookieShape {
 }
 
 /// An entry as it is kept: places in the text of all, and numbers of 32 bits where no input of the greatest length has
-/// more. The fields stand so that no byte between them is lost.
+/// more. Its line may be that of a log of many inputs. The fields stand so that no byte between them is lost.
 #[derive(Clone, Copy, Drop)]
 pub(crate) struct KeptEntry {
     user: u64,
     snapshot: u64,
     zookie_at: u64,
+    line: u64,
     goal: Span,
-    line: u32,
     before: u32,
     // the place of the entry that issued the version which this one names, which counts from 1; 0 where there is none
     content: u32,
@@ -68,7 +68,7 @@ impl Model for Entries {
     ghost invariant = { λ e. AreEntriesIn (string_bytes e.text) e.kept.items };
 }
 
-/// The number, where it has 32 bits. That of an input's line does, and so does whatever there are fewer of than lines.
+/// The number, where it has 32 bits. So has whatever there are fewer of than lines in an input.
 fn small(number: u64) -> Result<u32, AllocError>
     ensures { IfOk result (λ n. n ≡ number) }
 {
@@ -140,7 +140,7 @@ fn read<'a>(text: &'a str, kept: &KeptEntry) -> Entry<'a>
     Entry {
         kind: kept.kind,
         reply: kept.reply,
-        line: kept.line as u64,
+        line: kept.line,
         goal: FactRef::from_parts(set_at(text, kept.goal), kept.user),
         snapshot: kept.snapshot,
         zookie: zookie_in(kept.zookie, kept.zookie_at),
@@ -205,7 +205,6 @@ fn push_texts(
     ensures kept { IfOk result (λ k. recorded_in (string_bytes text.new) k
         ≡ record { entry = entry_value entry.now; content = content }) }
 {
-    let line = small(entry.line)?;
     let before = small(entry.before as u64)?;
     let content = place_of(content)?;
     let goal = push_set(text, entry.goal.set())?;
@@ -215,8 +214,8 @@ fn push_texts(
         user: entry.goal.user(),
         snapshot: entry.snapshot,
         zookie_at,
+        line: entry.line,
         goal,
-        line,
         before,
         content,
         label_at: label.at,

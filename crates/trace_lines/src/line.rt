@@ -4,7 +4,9 @@ ghost use Rattle.std.specs.Prelude.{◌≡◌, IfOk, IfSome, Some};
 ghost use Rattle.serde_json.specs.Read.{read};
 ghost use Rattle.serde_json.specs.View.{view};
 ghost use Rattle.trace_lines.specs.Causes.{Gives};
-ghost use Rattle.trace_lines.specs.LineValues.{entry_in, line_of_text, line_said};
+ghost use Rattle.tuple_text.specs.TupleRefs.{tuple_values};
+ghost use Rattle.trace_lines.specs.EntryViews.{entry_value};
+ghost use Rattle.trace_lines.specs.LineValues.{commits, declares, entry_in, line_of_text, line_said, records};
 ghost use Rattle.trace_lines.specs.LineViews.{IsOfItsText, line_value, said_value};
 
 use crate::cause::Cause;
@@ -19,6 +21,7 @@ use json_lines::read_value;
 use serde_json::Value;
 use std::alloc::{AllocError, Global};
 use std::marker::Model;
+use tuple_text::TupleRef;
 
 /// A line that declares a namespace: its text, and the value that this is.
 #[derive(Clone, Copy, Drop)]
@@ -144,18 +147,45 @@ impl TraceLine {
     fn of(alloc: Global, line: &Line<'_>) -> Result<TraceLine, AllocError>
         ensures { IfOk result (λ l. l ≡ line_value line.now) }
     {
-        let said = match line {
-            Line::Declares(declaration) => {
-                Said::Declares(String::from_str(alloc, declaration.text)?)
+        match line {
+            Line::Declares(declaration) => TraceLine::declaring(alloc, declaration.text),
+            Line::Commits(commit) => {
+                TraceLine::committing(alloc, commit.at, &commit.adds, &commit.removes)
             }
-            Line::Commits(commit) => Said::Commits(OwnedCommit::of(
-                alloc,
-                commit.at,
-                &commit.adds,
-                &commit.removes,
-            )?),
-            Line::Records(entry) => Said::Records(OwnedEntry::of(alloc, entry)?),
-        };
+            Line::Records(entry) => TraceLine::recording(alloc, entry),
+        }
+    }
+
+    /// The line that declares the namespace which this text describes.
+    pub fn declaring(alloc: Global, text: &str) -> Result<TraceLine, AllocError>
+        ensures { IfOk result (λ l. l ≡ declares text.now) }
+    {
+        let said = Said::Declares(String::from_str(alloc, text)?);
+        Ok(TraceLine { said })
+    }
+
+    /// The line that commits these changes at a timestamp.
+    pub fn committing(
+        alloc: Global,
+        at: u64,
+        adds: &[TupleRef<'_>],
+        removes: &[TupleRef<'_>],
+    ) -> Result<TraceLine, AllocError>
+        ensures { IfOk result (λ l. l ≡ commits (record {
+          at = at;
+          adds = tuple_values adds.now;
+          removes = tuple_values removes.now;
+        })) }
+    {
+        let said = Said::Commits(OwnedCommit::of(alloc, at, adds, removes)?);
+        Ok(TraceLine { said })
+    }
+
+    /// The line that records an entry, whatever place that has.
+    pub fn recording(alloc: Global, entry: &Entry<'_>) -> Result<TraceLine, AllocError>
+        ensures { IfOk result (λ l. l ≡ records (entry_value entry.now)) }
+    {
+        let said = Said::Records(OwnedEntry::of(alloc, entry)?);
         Ok(TraceLine { said })
     }
 

@@ -5,7 +5,6 @@ pub mod EndedLemmas
 pub mod ExactLemmas
 pub mod GrowthLemmas
 pub mod MomentLemmas
-pub mod NumberLemmas
 pub mod ObjectLemmas
 pub mod RisingLemmas
 pub mod SpanLemmas

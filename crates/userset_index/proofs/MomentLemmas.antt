@@ -12,10 +12,10 @@ use Rattle.userset_index.specs.Building.{IsEnd}
 use Rattle.userset_index.specs.Index.{HaveMoments, IsCovered}
 use Rattle.userset_index.specs.Moments.{HoldsStays, HoldsStaysFirst, IsGiven, IsStayOf, IsStaying}
 use Rattle.userset_index.specs.Lives.{touches_alive}
-use Rattle.userset_index.specs.Numbers.{Has}
+use Rattle.namespaces.specs.Numbers.{Has}
 use Rattle.userset_index.specs.declared.life.Life.{Life}
 use Rattle.userset_index.specs.declared.moments.Stay.{Stay}
-use Rattle.userset_index.specs.declared.numbers.Numbers.{Numbers}
+use Rattle.namespaces.specs.declared.number_set.Numbers.{Numbers}
 use Rattle.userset_index.proofs.CallerLemmas.{each_found}
 use Rattle.userset_index.proofs.EndLemmas.{last_before, last_here, last_within}
 

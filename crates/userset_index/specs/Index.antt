@@ -10,10 +10,10 @@ use Rattle.version_chains.specs.Commits.{Commit, Touch, changelog}
 use Rattle.marks.specs.Marks.{pair_mark, set_mark}
 use Rattle.marks.specs.Placed.{passes}
 use Rattle.userset_index.specs.Lives.{is_alive}
-use Rattle.userset_index.specs.Numbers.{Has}
+use Rattle.namespaces.specs.Numbers.{Has}
 use Rattle.userset_index.specs.declared.life.Life.{Life}
 use Rattle.userset_index.specs.declared.life.Way.{Way}
-use Rattle.userset_index.specs.declared.numbers.Numbers.{Numbers}
+use Rattle.namespaces.specs.declared.number_set.Numbers.{Numbers}
 use Rattle.userset_index.specs.declared.life.Way.TheVariants.{Own, Object}
 
 -- what a contract sees of an index: whether it holds of the changelog and the rules; the counts by which usersets are

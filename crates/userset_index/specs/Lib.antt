@@ -3,6 +3,5 @@ pub mod Growth
 pub mod Index
 pub mod Lives
 pub mod Moments
-pub mod Numbers
 pub mod Objects
 pub mod Spans

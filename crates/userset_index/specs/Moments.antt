@@ -8,10 +8,10 @@ use Rattle.namespaces.specs.Lookup.{namespace_names, place_of}
 use Rattle.version_chains.specs.Commits.{Touch}
 use Rattle.marks.specs.Marks.{set_mark}
 use Rattle.userset_index.specs.Index.{IsCovered, IsLastTouch}
-use Rattle.userset_index.specs.Numbers.{Has}
+use Rattle.namespaces.specs.Numbers.{Has}
 use Rattle.userset_index.specs.declared.moments.Stay.{Stay}
 use Rattle.userset_index.specs.declared.moments.Sweep.{Sweep}
-use Rattle.userset_index.specs.declared.numbers.Numbers.{Numbers}
+use Rattle.namespaces.specs.declared.number_set.Numbers.{Numbers}
 
 -- the stay of a touch, where it has one
 abbrev pub IsStayOf : List Declaration → Touch → ℕ → Option Stay → Type 0

@@ -16,11 +16,10 @@ use crate::build::{
 use crate::growth::Growth;
 use crate::life::{Life, Way};
 use crate::moments::Times;
-use crate::numbers::Numbers;
 use crate::objects::lives_through;
 use crate::spans::{Alive, Spans};
 use marks::{MarkedSet, pair_mark};
-use namespaces::Rules;
+use namespaces::{Numbers, Rules};
 use std::alloc::{AllocError, Global};
 use std::marker::Model;
 use tuple_text::SetRef;

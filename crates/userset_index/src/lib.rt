@@ -29,11 +29,9 @@ mod growth;
 mod index;
 mod life;
 mod moments;
-mod numbers;
 mod objects;
 mod spans;
 
 pub use index::UsersetIndex;
 pub use life::{Life, Way};
-pub use numbers::Numbers;
 pub use spans::Alive;

@@ -6,14 +6,13 @@ ghost use Rattle.version_chains.specs.Touches.{touch_value};
 ghost use Rattle.userset_index.specs.Building.{AreEnds};
 ghost use Rattle.userset_index.specs.Index.{HaveMoments, IsCovered};
 ghost use Rattle.userset_index.specs.Moments.{Awaits, AtLeast, HoldsStays, IsGiven, IsHeld, IsStayOf};
-ghost use Rattle.userset_index.specs.Numbers.{Has};
+ghost use Rattle.namespaces.specs.Numbers.{Has};
 
 use crate::build::ends_of;
 use crate::life::Life;
-use crate::numbers::Numbers;
 use crate::spans::Spans;
 use marks::MarkedSet;
-use namespaces::{RulePlace, Rules};
+use namespaces::{Numbers, RulePlace, Rules};
 use rewrites::{Part, PartedRule, Rewrite};
 use std::alloc::{AllocError, Global};
 use tuple_text::UserRef;

@@ -1,33 +1,41 @@
 -- Which namespaces declare a relation that is read.
-use Rattle.std.proofs.Common.{◌≡◌, ◌<◌, ◌^◌, ℕ, suc, List, [], None, Some, arith, sym, subst, true, refl, eq-eqb}
+use Rattle.std.proofs.Common.{◌≡◌, ◌<◌, ◌+◌, ◌^◌, ℕ, suc, inl, inr, arith, List, None, Some, Option, option_map, ap, sym, subst, true, refl, eq-eqb}
+use Rattle.std.proofs.lemmas.Bool.{cases_eq}
 use Rattle.std.proofs.lemmas.List.Folds.{list_any_at}
 use Rattle.std.specs.List.{list_any}
 use Rattle.std.specs.Prelude.{Contains, slice_get, length, nat_eq}
-use Rattle.tuple_text.specs.Sets.{SetValue}
-use Rattle.namespaces.specs.Declaration.{Declaration}
+use Rattle.namespaces.specs.Declaration.{Declaration, Relation}
+use Rattle.namespaces.specs.Declaring.{declares}
 use Rattle.namespaces.specs.InForce.{names_in_force}
-use Rattle.namespaces.specs.Lookup.{namespace_names, place_of, rule_at}
-use Rattle.userset_index.proofs.BuildLemmas.{undeclared_before}
+use Rattle.namespaces.specs.Lookup.{as_rule, namespace_names, namespace_numbered, place_of, relation_at, rule_at}
+use Rattle.namespaces.specs.Numbers.{Has}
+use Rattle.namespaces.specs.WellFormed.{IsWellFormed}
+use Rattle.namespaces.specs.declared.number_set.Numbers.{Numbers}
+use Rattle.namespaces.proofs.Declared.{in_force_placed, stays_declared}
 use Rattle.judgement.specs.Decided.{dec_undeclared}
 use Rattle.wide_rules.specs.Declaring.{AreDeclaring, DeclaresNone}
 use Rattle.judgement.proofs.IndexLemmas.{numbered}
 use Rattle.judgement.proofs.PassLemmas.{each_element}
 
--- the timestamp than which there is no later one
-abbrev pub last : ℕ
-last = 18446744073709551615
+-- what is declared at some time is what the last declaration has
+pub declared_ever : (ds : List Declaration) (n at : ℕ) (namespace relation : List ℕ) → IsWellFormed ds
+    → namespace_numbered (suc n) ds ≡ Some namespace → ¬ (rule_at ds at namespace relation ≡ None) → declares (suc n) relation ds ≡ true
+declared_ever ds n at namespace relation well numbered_so declared = by (relation_at ds at namespace relation) refl
+  where
+    by : (o : Option Relation) → relation_at ds at namespace relation ≡ o → declares (suc n) relation ds ≡ true
+    by None none = absurd (declared (ap (option_map as_rule) none))
+    by (Some x) found =
+        let last = stays_declared ds namespace relation x well (in_force_placed ds at namespace relation x found) in
+        rw (numbered_so, last.1) refl
 
-abbrev object : List ℕ → List ℕ → SetValue
-object namespace relation = record { namespace = namespace; id = []; relation = relation }
-
-never : (ds : List Declaration) (namespace relation : List ℕ) → rule_at ds last namespace relation ≡ None
-    → (at : ℕ) → at < 2 ^ 64 → rule_at ds at namespace relation ≡ None
-never ds namespace relation none at small = undeclared_before ds (object namespace relation) at last (omega (arith, small)) none
-
--- where the last declaration has none, none before has one
-pub none_before : (ds : List Declaration) (names : List (List ℕ)) (namespace : List ℕ) → DeclaresNone (rule_at ds last) names namespace
-    → (at : ℕ) → at < 2 ^ 64 → DeclaresNone (rule_at ds at) names namespace
-none_before ds names namespace none at small relation named = never ds namespace relation (none relation named) at small
+-- one number more, which is there where it is among them
+pub next_number : (numbers more : List ℕ) (all : Numbers) (before : ℕ) → ((n : ℕ) → n < before → Has all (suc n) → Contains numbers (suc n))
+    → ((n : ℕ) → Contains numbers n → Contains more n) → (Has all (before + 1) → Contains more (before + 1))
+    → (n : ℕ) → n < before + 1 → Has all (suc n) → Contains more (suc n)
+next_number numbers more all before were kept new n less has = elim (cases_eq n before) [
+  | inl same ↦ (let last : before + 1 ≡ suc n = omega (arith, same) in subst (Contains more) last (new (subst (Has all) (sym last) has)))
+  | inr other ↦ kept (suc n) (were n (omega (arith, less, other)) has)
+]
 
 -- asked for each relation that is read
 pub none_by_names : (ds : List Declaration) (at : ℕ) (names : List (List ℕ)) (namespace : List ℕ)

@@ -7,8 +7,8 @@ use Rattle.tuple_text.specs.declared.users.User.TheVariants.{Set}
 use Rattle.namespaces.specs.Declaration.{Declaration}
 use Rattle.namespaces.specs.Lookup.{namespace_names, namespace_numbered, place_of, rule_at}
 use Rattle.strata.specs.Meaning.{with_relation, IsStored}
-use Rattle.userset_index.specs.Numbers.{Has}
-use Rattle.userset_index.specs.declared.numbers.Numbers.{Numbers}
+use Rattle.namespaces.specs.Numbers.{Has}
+use Rattle.namespaces.specs.declared.number_set.Numbers.{Numbers}
 use Rattle.snapshots.specs.Snapshots.{rules_in, tuples_in}
 use Rattle.snapshots.specs.declared.snapshot.Snapshot.{Snapshot}
 use Rattle.judgement.specs.Decided.{dec_undeclared}

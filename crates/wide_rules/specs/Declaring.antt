@@ -2,8 +2,8 @@
 use Rattle.std.specs.Prelude.{◌≡◌, ◌<◌, ◌≤◌, ◌^◌, ℕ, suc, length, List, Contains, None, Some}
 use Rattle.namespaces.specs.Declaration.{Declaration}
 use Rattle.namespaces.specs.Lookup.{Lookup, namespace_names, namespace_numbered, rule_at}
-use Rattle.userset_index.specs.Numbers.{Has}
-use Rattle.userset_index.specs.declared.numbers.Numbers.{Numbers}
+use Rattle.namespaces.specs.Numbers.{Has}
+use Rattle.namespaces.specs.declared.number_set.Numbers.{Numbers}
 
 -- a namespace declares none of these relations
 abbrev pub DeclaresNone : Lookup → List (List ℕ) → List ℕ → Type 0

@@ -10,7 +10,7 @@ use Rattle.rewrites.specs.Parts.{computed_names}
 use Rattle.rewrites.specs.declared.parts.Part.{Part}
 use Rattle.rewrites.specs.declared.parts.Through.{Through}
 use Rattle.strata.specs.Meaning.{IsStored}
-use Rattle.userset_index.specs.Numbers.{Has}
+use Rattle.namespaces.specs.Numbers.{Has}
 use Rattle.snapshots.specs.Snapshots.{rules_in, snapshot_at, tuples_in}
 use Rattle.snapshots.specs.Timelines.{TimelineValue}
 use Rattle.snapshots.specs.declared.snapshot.Snapshot.{Snapshot}

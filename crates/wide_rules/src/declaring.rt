@@ -1,16 +1,17 @@
 //! Which namespaces declare a relation that is read through a tupleset.
 
-ghost use Rattle.std.specs.Prelude.{◌≡◌, ◌<◌, ◌^◌, ℕ, List, Contains, None, false, slice_get, option_map, IfOk};
+ghost use Rattle.std.specs.Prelude.{◌≡◌, ◌<◌, ◌^◌, ℕ, suc, List, Contains, None, Some, false, true, slice_get, option_map, IfOk};
+ghost use Rattle.namespaces.specs.Declaring.{declares};
 ghost use Rattle.namespaces.specs.Lookup.{rule_at};
+ghost use Rattle.namespaces.specs.WellFormed.{IsWellFormed};
 ghost use Rattle.rewrites.specs.Parts.{computed_names};
-ghost use Rattle.userset_index.specs.Numbers.{Has};
+ghost use Rattle.namespaces.specs.Numbers.{Has};
 ghost use Rattle.wide_rules.specs.Declaring.{AreDeclaring, DeclaresNone, HaveDeclaring};
 
-use namespaces::{MAX_NUMBER, Rules};
+use namespaces::{MAX_NUMBER, Numbers, Rules};
 use rewrites::Through;
 use std::alloc::{AllocError, Global};
 use tuple_text::SetRef;
-use userset_index::Numbers;
 
 /// Whether a namespace declares, at a timestamp, one of the relations that are read, asked for these: at most as many
 /// as it declares.
@@ -57,12 +58,35 @@ pub(crate) fn declares_some(rules: &Rules, through: &Through, namespace: &str, a
     }
 }
 
-/// Whether it ever does. What is declared stays declared, so the last declaration tells.
-fn declares_ever(rules: &Rules, through: &Through, namespace: &str) -> bool
-    ensures { result ≡ false → (at : ℕ) → at < 2 ^ 64
-        → DeclaresNone (rule_at rules.now at) (computed_names through.now) namespace.now }
+/// Declarations are well formed. That is a law: it computes nothing.
+fn are_well_formed(rules: &Rules)
+    ensures { IsWellFormed rules.now }
 {
-    declares_some(rules, through, namespace, u64::MAX)
+    let _ = rules.namespace(1);
+}
+
+/// The namespaces that ever declare the relation at a place of those that are read.
+fn declaring_at(rules: &Rules, through: &Through, place: usize) -> Numbers
+    ensures { (relation : List ℕ) (n : ℕ) → slice_get (computed_names through.now) place ≡ Some relation → n < 256
+        → declares (suc n) relation rules.now ≡ true → Has result (suc n) }
+{
+    match through.name(place) {
+        Some(relation) => rules.declaring(relation),
+        None => Numbers::none(),
+    }
+}
+
+/// The namespaces that ever declare one of the relations that are read.
+fn declaring_one(rules: &Rules, through: &Through) -> Numbers
+    ensures { (relation : List ℕ) (n : ℕ) → Contains (computed_names through.now) relation → n < 256
+        → declares (suc n) relation rules.now ≡ true → Has result (suc n) }
+{
+    let mut all = Numbers::none();
+    // as many as the rule names, and one look-up for each
+    for k in 0..through.computed.len() {
+        all = all.joined(declaring_at(rules, through, k));
+    }
+    all
 }
 
 /// The numbers of the namespaces that declare a relation that is read, at whatever time.
@@ -73,13 +97,12 @@ pub(crate) fn declaring(
 ) -> Result<Vec<u16>, AllocError>
     ensures { IfOk result (λ numbers. AreDeclaring rules.now (computed_names through.now) numbers.items) }
 {
+    are_well_formed(rules);
+    let all = declaring_one(rules, through);
     let mut numbers = Vec::new(alloc);
     for before in 0..MAX_NUMBER {
-        let number = before + 1;
-        if let Some(namespace) = rules.namespace(number) {
-            if declares_ever(rules, through, namespace) {
-                numbers.push(number)?;
-            }
+        if all.has(before + 1) {
+            numbers.push(before + 1)?;
         }
     }
     Ok(numbers)

@@ -14,11 +14,11 @@ use crate::live::live_in;
 use crate::through::{are_barred, tupleset_of};
 use judgement::{AskedFact, KnownFact, stored_in};
 use marks::MarkedSet;
+use namespaces::Numbers;
 use rewrites::Through;
 use snapshots::Snapshot;
 use std::alloc::{AllocError, Global};
 use tuple_text::SetRef;
-use userset_index::Numbers;
 
 /// The namespaces that declare what is read, and those of them of which something matters that is stored in the
 /// tupleset of one object at one timestamp. Facts of one object mostly follow one another.

@@ -10,7 +10,7 @@ ghost use Rattle.strata.specs.Meaning.{IsStored};
 ghost use Rattle.snapshots.specs.Snapshots.{rules_in, tuples_in};
 ghost use Rattle.marks.specs.Marks.{set_mark};
 ghost use Rattle.userset_index.specs.Index.{IsUsersetIndex, is_crowded};
-ghost use Rattle.userset_index.specs.Numbers.{Has};
+ghost use Rattle.namespaces.specs.Numbers.{Has};
 ghost use Rattle.wide_rules.specs.Declaring.{AreDeclaring, DeclaresNone};
 ghost use Rattle.wide_rules.specs.Kept.{AreLive};
 ghost use Rattle.judgement.specs.StoredIn.{HaveStored};
@@ -19,10 +19,11 @@ ghost use Rattle.judgement.specs.Passes.{EachSet};
 use crate::declaring::{declares_some, is_among};
 use judgement::{is_absent, stored_in};
 use marks::MarkedSet;
+use namespaces::Numbers;
 use rewrites::Through;
 use snapshots::Snapshot;
 use std::alloc::{AllocError, Global};
-use userset_index::{Numbers, UsersetIndex};
+use userset_index::UsersetIndex;
 use version_chains::Usersets;
 
 /// Whether something may matter that is stored in a crowded set, of the namespace of a number.

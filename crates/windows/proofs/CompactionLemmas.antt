@@ -106,7 +106,7 @@ untouched b t old new h = split_stored b t old new
 
 -- ---- rising commits, cut at a timestamp
 
-all_filtered : {X : Type 0} (p : X → Bool) (P : X → Type 0) → ((x : X) → p x ≡ true → P x) → (xs : List X)
+pub all_filtered : {X : Type 0} (p : X → Bool) (P : X → Type 0) → ((x : X) → p x ≡ true → P x) → (xs : List X)
     → AllByRecursion P (filter p xs)
 all_filtered p P h [] = tt
 all_filtered {X} p P h (x ∷ xs) = by_test (all_filtered p P h xs) (p x) refl

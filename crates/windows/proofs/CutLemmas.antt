@@ -12,10 +12,10 @@ use Rattle.windows.specs.Windows.{IsWindow, IsCopy}
 use Rattle.windows.proofs.CompactionLemmas.{compacted_law}
 use Rattle.windows.proofs.AlikeLemmas.{swapped, same_members_law}
 
-abbrev lines_of : List CommitLine → List ℕ
+abbrev pub lines_of : List CommitLine → List ℕ
 lines_of cs = map (λ (c : CommitLine). c.line) cs
 
-filter_on : (p : ℕ → Bool) (ls : List ℕ) (cs : List Commit)
+pub filter_on : (p : ℕ → Bool) (ls : List ℕ) (cs : List Commit)
     → filter (λ (c : CommitLine). p c.at) (on_lines ls cs) ≡ on_lines (lines_of (filter (λ (c : CommitLine). p c.at)
     (on_lines ls cs))) (filter (λ (c : Commit). p c.at) cs)
 filter_on p [] cs = refl

@@ -1,5 +1,5 @@
 -- What was found on an entry stands when the log has grown.
-use Rattle.std.proofs.Common.{◌≡◌, ℕ, ◌<◌, ◌≤◌, ◌&&◌, ◌||◌, ◌==◌, not, inl, inr, Bool, true, false, cond, ltb, List, [], ◌∷◌, ◌++◌, length, map, take, get_or, Option, Some, None, refl, sym, ◌∙◌, ap, subst, arith, append-nil}
+use Rattle.std.proofs.Common.{◌≡◌, ℕ, zero, suc, ◌<◌, ◌≤◌, ◌&&◌, ◌||◌, ◌==◌, not, inl, inr, Bool, true, false, cond, ltb, List, [], ◌∷◌, ◌++◌, length, map, take, get_or, Option, Some, None, refl, sym, ◌∙◌, ap, subst, arith, append-nil}
 use Rattle.std.specs.Prelude.{slice_get, filter, nat_le, All, Contains, option_map, option_and_then, is_some, is_none}
 use Rattle.std.specs.List.{AllByRecursion, list_any}
 use Rattle.std.specs.List.Sorted.{IsStrictlyIncreasing}
@@ -28,6 +28,13 @@ use Rattle.windows.specs.Alike.{IsSameAt}
 use Rattle.windows.specs.Growth.{GoesOn, StaysClosed, Stands}
 use Rattle.windows.proofs.AlikeLemmas.{judged_alike_law}
 use Rattle.windows.proofs.CompactionLemmas.{IsAbove, log_out}
+
+-- of what stands behind others
+pub behind : {X : Type 0} (P : X → Type 0) (xs ys : List X) → All P ys → (i : ℕ) (x : X) → length xs ≤ i
+    → slice_get (xs ++ ys) i ≡ Some x → P x
+behind P [] ys all i x le at = subst P (get_or_from_slice_get ys i x x at) (all i x (slice_get_within ys i x at))
+behind P (y ∷ xs) ys all zero x le at = absurd (omega (arith, le))
+behind P (y ∷ xs) ys all (suc i) x le at = behind P xs ys all i x (omega (arith, le)) at
 
 -- ---- a longer trace has the same at an earlier place
 

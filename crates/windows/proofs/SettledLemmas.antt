@@ -73,7 +73,7 @@ further : (s n : ℕ) → s ≤ n → (ds : List Commit) → AllByRecursion (λ 
 further s n le [] h = tt
 further s n le (d ∷ ds) h = ((let lt = h.0 in omega (arith, le, lt)), further s n le ds h.1)
 
-all_above : (s : ℕ) (cs ds : List Commit) → AreOrdered (cs ++ ds) → list_any (λ c. leb s c.at) cs ≡ true
+pub all_above : (s : ℕ) (cs ds : List Commit) → AreOrdered (cs ++ ds) → list_any (λ c. leb s c.at) cs ≡ true
     → AllByRecursion (IsAbove s) ds
 all_above s [] ds o h = cc
 all_above s (c ∷ cs) ds o h = by_test (all_above s cs ds o.1) (leb s c.at) refl h
@@ -114,7 +114,7 @@ module _ {k : ℕ} (t u : TraceValue) (goes : GoesOn k t u) (first : HasRisingLi
     above = all_above e.snapshot t.commits goes.commits (rw (← goes.committed) (ordered u.commits
         whole.commits.timestamps)) settled
 
-    opened : open_snapshot u e ≡ open_snapshot t e
+    pub opened : open_snapshot u e ≡ open_snapshot t e
     opened =
         let p : CommitLine → Bool = λ c. ltb e.line c.line in
         let later : CommitLine → Type 0 = λ c. e.snapshot < c.at in

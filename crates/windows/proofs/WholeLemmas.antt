@@ -18,7 +18,7 @@ use Rattle.windows.proofs.CompactionLemmas.{IsAbove, IsUpTo, whole_above, log_ou
 use Rattle.windows.proofs.CutLemmas.{cut_law}
 use Rattle.windows.proofs.WindowLemmas.{found_law, by_times}
 
-whole_up_to : (h : ℕ) (cs : List Commit) → AllByRecursion (IsUpTo h) cs → up_to h cs ≡ cs
+pub whole_up_to : (h : ℕ) (cs : List Commit) → AllByRecursion (IsUpTo h) cs → up_to h cs ≡ cs
 whole_up_to h [] a = refl
 whole_up_to h (c ∷ cs) a = rw (le-leb c.at h a.0) (ap (λ (ds : List Commit). c ∷ ds) (whole_up_to h cs a.1))
 
@@ -34,7 +34,7 @@ same_what (BadEvidence k) = refl
 same_what Silent = refl
 same_what WrongReply = refl
 
-same_found : (xs : List (Option What)) → map (option_map (relined (λ l. l))) xs ≡ xs
+pub same_found : (xs : List (Option What)) → map (option_map (relined (λ l. l))) xs ≡ xs
 same_found [] = refl
 same_found (None ∷ xs) = ap (λ (ys : List (Option What)). None ∷ ys) (same_found xs)
 same_found (Some x ∷ xs) = ap (λ (y : What). Some y ∷ map (option_map (relined (λ l. l))) xs) (same_what x)

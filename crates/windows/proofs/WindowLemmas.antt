@@ -112,7 +112,7 @@ none_left : {X : Type 0} (p q : X → Bool) (xs : List X) → AllByRecursion (λ
 none_left p q [] h = refl
 none_left p q (x ∷ xs) h = rw h.0 (none_left p q xs h.1)
 
-filter_mapped : {X : Type 0} (f : X → X) (p q : X → Bool) (xs : List X) → AllByRecursion (λ x. q (f x) ≡ p x) xs
+pub filter_mapped : {X : Type 0} (f : X → X) (p q : X → Bool) (xs : List X) → AllByRecursion (λ x. q (f x) ≡ p x) xs
     → filter q (map f xs) ≡ map f (filter p xs)
 filter_mapped f p q [] h = refl
 filter_mapped {X} f p q (x ∷ xs) h = ap (λ (b : Bool). cond b (f x ∷ filter q (map f xs)) (filter q (map f xs))) h.0
@@ -123,7 +123,7 @@ filter_mapped {X} f p q (x ∷ xs) h = ap (λ (b : Bool). cond b (f x ∷ filter
     by_test rest true = ap (λ (ys : List X). f x ∷ ys) rest
     by_test rest false = rest
 
-every : {X : Type 0} (P : X → Type 0) → ((x : X) → P x) → (xs : List X) → AllByRecursion P xs
+pub every : {X : Type 0} (P : X → Type 0) → ((x : X) → P x) → (xs : List X) → AllByRecursion P xs
 every P h [] = tt
 every P h (x ∷ xs) = (h x, every P h xs)
 
@@ -147,7 +147,7 @@ on_lines-map g (l ∷ ls) [] = refl
 on_lines-map g (l ∷ ls) (c ∷ cs) = ap (λ (xs : List CommitLine). record { line = g l; at = c.at } ∷ xs) (on_lines-map g
     ls cs)
 
-by_lines : (P : ℕ → Type 0) (ls : List ℕ) (cs : List Commit) → AllByRecursion P ls
+pub by_lines : (P : ℕ → Type 0) (ls : List ℕ) (cs : List Commit) → AllByRecursion P ls
     → AllByRecursion (λ (c : CommitLine). P c.line) (on_lines ls cs)
 by_lines P [] cs h = tt
 by_lines P (l ∷ ls) [] h = tt

@@ -1,5 +1,5 @@
-use Rattle.std.proofs.Common.{◌≡◌, ◌∙◌, None, sym, ap, is_some, false, string_bytes}
-use Rattle.names.specs.Names.{place_of, value_of}
+use Rattle.std.proofs.Common.{◌≡◌, None, sym, ap, is_some, string_bytes}
+use Rattle.names.specs.Names.{place_of}
 use Rattle.names.proofs.NamesLemmas.{stands_nowhere}
 use Rattle.namespaces.proofs.Indexes.{with_revision-there, with_revision-new}
 use Rattle.namespaces.proofs.index.note.Goals as goal

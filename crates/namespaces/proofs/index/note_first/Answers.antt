@@ -1,4 +1,4 @@
-use Rattle.std.proofs.Common.{◌∙◌, ap, refl, sym, not, string_bytes}
+use Rattle.std.proofs.Common.{◌∙◌, ap, refl, not}
 use Rattle.namespaces.specs.Index.{show_index}
 use Rattle.namespaces.proofs.Indexes.{show_index-push}
 use Rattle.namespaces.proofs.index.note_first.Goals as goal

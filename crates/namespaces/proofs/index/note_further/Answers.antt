@@ -1,4 +1,4 @@
-use Rattle.std.proofs.Common.{◌≡◌, ◌∙◌, Some, option_map, slice_get, sym, ap}
+use Rattle.std.proofs.Common.{◌∙◌, ap}
 use Rattle.namespaces.specs.Index.{show_index}
 use Rattle.namespaces.proofs.Tables.{on_err_always}
 use Rattle.namespaces.proofs.Indexes.{put_back, put_back_more}

@@ -2,8 +2,8 @@ use Rattle.std.proofs.Common.{◌≤◌, ◌%◌, ◌∙◌, sym, inl, inr, ap, 
 use Rattle.std.specs.Prelude.{slice_get}
 use Rattle.std.proofs.Math.Nat.{eq-or-lt_of_le}
 use Rattle.std.proofs.lemmas.Option.{get_or_from_slice_get}
-use Rattle.userset_index.specs.Numbers.{Has}
-use Rattle.userset_index.proofs.NumberLemmas.{of_slot}
+use Rattle.namespaces.specs.Numbers.{Has}
+use Rattle.namespaces.proofs.NumberSets.{of_slot}
 use Rattle.userset_index.proofs.moments.lasting.Goals.{then-untils-slot, else-untils-slot}
 use Rattle.userset_index.proofs.moments.lasting.Goals as goal
 

@@ -1,6 +1,6 @@
 use Rattle.std.proofs.Common.{◌≡◌, ◌<◌, ◌≤◌, ℕ, Some}
 use Rattle.std.specs.Prelude.{slice_get}
-use Rattle.userset_index.specs.Numbers.{Has}
+use Rattle.namespaces.specs.Numbers.{Has}
 use Rattle.userset_index.proofs.moments.lasting.Given as goal
 
 -- of the slots so far those are there that last

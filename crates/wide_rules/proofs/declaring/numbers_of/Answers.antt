@@ -1,6 +1,6 @@
 use Rattle.std.proofs.Common.{subst, arith}
 use Rattle.std.proofs.lemmas.Option.{get_or_from_slice_get}
-use Rattle.userset_index.specs.Numbers.{Has}
+use Rattle.namespaces.specs.Numbers.{Has}
 use Rattle.judgement.proofs.PassLemmas.{next_element, place_of_element}
 use Rattle.wide_rules.proofs.declaring.numbers_of.Goals as goal
 

@@ -9,4 +9,4 @@ at_least n m e = grind (arith, nat_tests)
 pub returns : goal.returns
 returns c =
     let s = c.self.inside in
-    at_least c.len.result _ (c.len.ensures.len ∙ count_found s.lines.items s.namespaces.entries s.changes c.args.self.now c.self.view_is c.self.invariant)
+    at_least c.len.result _ (c.len.ensures.len ∙ count_found s.lines.items s.namespaces.entries s.changes c.args.self.now c.self.view_is c.self.invariant.0)

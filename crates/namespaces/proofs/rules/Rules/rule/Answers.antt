@@ -2,7 +2,7 @@ use Rattle.std.proofs.Common.{◌≡◌, slice_get, refl, sym}
 use Rattle.std.specs.Prelude.{option_and_then, option_map}
 use Rattle.namespaces.specs.Declaration.{Declaration}
 use Rattle.namespaces.specs.Lookup.{history_numbered}
-use Rattle.namespaces.proofs.Numbers.{history-numbered}
+use Rattle.namespaces.proofs.Numbering.{history-numbered}
 use Rattle.namespaces.proofs.Times.{revisions_grow}
 use Rattle.namespaces.proofs.rules.Rules.rule.Goals.{After-revision_with}
 use Rattle.namespaces.proofs.rules.Rules.rule.Goals as goal

@@ -3,7 +3,7 @@ use Rattle.tuple_text.specs.Refs.{set_value}
 use Rattle.marks.specs.Marks.{set_mark}
 use Rattle.marks.proofs.PlacedLemmas.{and-left, and-right}
 use Rattle.userset_index.specs.Index.{is_crowded}
-use Rattle.userset_index.specs.Numbers.{Has}
+use Rattle.namespaces.specs.Numbers.{Has}
 use Rattle.snapshots.specs.Leading.{AreGathered, sets_of}
 use Rattle.snapshots.proofs.LeadingLemmas.{none_gathered, passed, more_gathered, all_gathered}
 use Rattle.snapshots.proofs.snapshot.Snapshot.leading_through.Goals.{then-has+in_ok-push_of, else-has}

@@ -1,6 +1,6 @@
 use Rattle.std.proofs.Common.{map}
 use Rattle.tuple_text.specs.Refs.{set_value}
-use Rattle.userset_index.specs.Numbers.{Has}
+use Rattle.namespaces.specs.Numbers.{Has}
 use Rattle.snapshots.specs.Leading.{AreGathered}
 use Rattle.snapshots.proofs.snapshot.Snapshot.leading_through.Given as goal
 

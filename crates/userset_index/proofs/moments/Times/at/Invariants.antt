@@ -2,8 +2,8 @@ use Rattle.std.proofs.Common.{ℕ}
 use Rattle.std.specs.Prelude.{All}
 use Rattle.std.proofs.Common.{length}
 use Rattle.userset_index.specs.Lives.{touches_alive}
-use Rattle.userset_index.specs.Numbers.{Has}
-use Rattle.userset_index.specs.declared.numbers.Numbers.{Numbers}
+use Rattle.namespaces.specs.Numbers.{Has}
+use Rattle.namespaces.specs.declared.number_set.Numbers.{Numbers}
 use Rattle.userset_index.specs.Moments.{IsGiven}
 use Rattle.userset_index.proofs.moments.Times.at.Given as goal
 

@@ -1,0 +1,6 @@
+pub mod AlikeLemmas
+pub mod HandedLemmas
+pub mod OnwardLemmas
+pub mod ReachLemmas
+pub mod SilentLemmas
+pub mod StandInLemmas

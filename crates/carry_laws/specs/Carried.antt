@@ -1,0 +1,85 @@
+-- A trace that stands in for a log so far, and the log that goes on from there.
+use Rattle.std.specs.Prelude.{◌≡◌, ℕ, ◌+◌, ◌<◌, ◌≤◌, ◌==◌, Bool, true, false, List, [], ◌∷◌, ◌++◌, length, map, filter, is_none, nat_lt, nat_le, slice_get, All, Option, Some, if◌then◌else◌}
+use Rattle.std.specs.List.{list_any}
+use Rattle.version_chains.specs.Commits.{Commit}
+use Rattle.trace_lines.specs.Values.{EntryValue, TraceValue}
+use Rattle.trace_lines.specs.Versions.{Version, issues}
+use Rattle.token_order.specs.Order.{commit_lines_of}
+use Rattle.evidence_check.specs.Evidences.{steps_of}
+use Rattle.evidence_check.specs.Steps.{StepValue}
+use Rattle.findings.specs.Findings.{found_on, on_line}
+use Rattle.findings.specs.declared.finding.Finding.{Finding}
+use Rattle.follow_laws.specs.Told.{at_moments, is_at, moments}
+use Rattle.windows.specs.Compaction.{StandsFor, above}
+use Rattle.windows.specs.Growth.{GoesOn, is_settled}
+use Rattle.windows.specs.Windows.{face}
+
+-- an entry without how many commits stand before it
+abbrev pub placeless : EntryValue → EntryValue
+placeless = face (λ l. l)
+
+-- a commit of a timestamp is among these
+abbrev pub has_commit_at : ℕ → List Commit → Bool
+has_commit_at b commits = list_any (λ c. c.at == b) commits
+
+-- the lines of the commits above a timestamp
+abbrev pub lines_above : ℕ → TraceValue → List ℕ
+lines_above b t = map (λ c. c.line) (filter (λ c. nat_lt b c.at) (commit_lines_of t))
+
+-- Entries of a log that are kept by a test: those that are not settled, which stand from line p on, and those that
+-- issue a version. Where an entry stands among the commits is nothing to the test.
+pub record Keeps (p : ℕ) (t : TraceValue) (keep : EntryValue → Bool) : Type 0 where
+  pub unsettled : (i : ℕ) (e : EntryValue) → slice_get t.entries i ≡ Some e → is_settled t e ≡ false
+      → (keep e ≡ true) × (p ≤ e.line)
+  pub issuers : (v : Version) (e : EntryValue) → issues v e ≡ true → keep e ≡ true
+  pub by_face : (e : EntryValue) → keep (placeless e) ≡ keep e
+
+-- The trace x stands in for the log that t says. It has the same declarations. In front of line p it has some commits
+-- that store what t stores at timestamp b, at which both have a commit; and from line p on it has all commits of t,
+-- which are those above b. Of the entries it has those that are kept. Each stands on its line in the log.
+pub record StandsIn (b p : ℕ) (t x : TraceValue) : Type 0 where
+  pub front : List Commit
+  pub front_lines : List ℕ
+  pub keep : EntryValue → Bool
+  pub declarations : x.declarations ≡ t.declarations
+  pub commits : x.commits ≡ front ++ above b t.commits
+  pub on_lines : x.commit_lines ≡ front_lines ++ lines_above b t
+  pub entries : map placeless x.entries ≡ map placeless (filter keep t.entries)
+  pub stands : StandsFor front b t.commits
+  pub base : has_commit_at b t.commits ≡ true
+  pub base_there : has_commit_at b front ≡ true
+  pub counted : length front_lines ≡ length front
+  pub in_front : All (λ l. l < p) front_lines
+  pub folded : All (λ c. c.at ≤ b → c.line < p) (commit_lines_of t)
+  pub behind : All (λ c. b < c.at → p ≤ c.line) (commit_lines_of t)
+  pub keeps : Keeps p t keep
+
+-- The log that t says goes on, and the same lines behind x, which stands in for t, make y.
+pub record GoesOnAlike {n : ℕ} {t u : TraceValue} (goes : GoesOn n t u) (x y : TraceValue) : Type 0 where
+  pub declared : y.declarations ≡ x.declarations ++ goes.declarations
+  pub committed : y.commits ≡ x.commits ++ goes.commits
+  pub on_lines : y.commit_lines ≡ x.commit_lines ++ goes.commit_lines
+  pub recorded : map placeless y.entries ≡ map placeless (x.entries ++ goes.entries)
+
+-- entries on the same line have the same steps
+abbrev pub HaveSameSteps : TraceValue → List (Option (List StepValue)) → TraceValue → List (Option (List StepValue))
+    → Type 0
+HaveSameSteps u evidence y own =
+    (i j : ℕ) (e d : EntryValue) → slice_get u.entries i ≡ Some e → slice_get y.entries j ≡ Some d → d.line ≡ e.line
+    → steps_of own j ≡ steps_of evidence i
+
+-- ---- what is told of entries that ask at or above a timestamp: of others a run does not know the store
+
+abbrev pub asked_from : ℕ → (Option ℕ → Bool) → TraceValue → List (Option (List StepValue)) → ℕ → List EntryValue
+    → List Finding
+asked_from b test t evidence i [] = []
+asked_from b test t evidence i (e ∷ es) =
+    (if nat_le b e.snapshot then on_line e.line (at_moments test (moments t e) (found_on t evidence i e)) else [])
+    ++ asked_from b test t evidence (i + 1) es
+
+-- when line k is taken, and at the end of the log
+abbrev pub asked_on : ℕ → TraceValue → List (Option (List StepValue)) → ℕ → List Finding
+asked_on b t evidence k = asked_from b (is_at k) t evidence 0 t.entries
+
+abbrev pub asked_left : ℕ → TraceValue → List (Option (List StepValue)) → List Finding
+asked_left b t evidence = asked_from b is_none t evidence 0 t.entries
