@@ -1,10 +1,11 @@
 """The same answers by one process or many, with a quicker reader of JSON or without, in one block or many."""
 import json
+import re
 import unittest
 from random import Random
 from unittest import mock
 
-from new_enemy_tools.importing import located, spool
+from new_enemy_tools.importing import causes, located, spool
 from tests import openfga_service
 from tests.test_core import RULES, CoreCase, check, content, rel, write
 from tests.test_round_trips import OpenFga, SpiceDb
@@ -115,7 +116,9 @@ class Blocks(BlockCase):
             self.put("rules", service.rules)
             self.put("log", log)
             status, said, _, _ = self.same(*service.words)
-            self.assertEqual((status, said.splitlines()[0]), (0, "passed over 3: failed request (1)"))
+            struck = set(re.findall("^not audited [0-9]+: (.*)$", said, re.M))
+            self.assertEqual((status, said.splitlines()[0]), (6 if struck else 0, "passed over 3: failed request (1)"))
+            self.assertEqual(struck - {causes.CIRCLE_TAKEN_AWAY}, set())
             log.insert(5, {"hello": "you"})
             self.put("log", log)
             self.assertIn("log:6: neither", self.same(*service.words)[1])

@@ -116,6 +116,13 @@ class OpenFga(CallsCase):
         self.imported(*self.words(saves, batch("doc:1", "doc:2"), batch("doc:1") | shown))
         self.assertEqual(self.audited(), "entries 4\nfindings 0\nverdict clean\n")
 
+    def test_what_a_content_check_saves_stands_in_its_content_alone(self):
+        for more in {"version": "w"}, {"token": 1}:
+            line = {"request": key("user:a"), "response": {"allowed": True}, "snapshot": 2, "content": {"version": "v", "token": 2}, **more}
+            self.assertEqual(self.struck(*self.words(line)), [
+                "log:3: content check that can't be read: what a content check saves stands in `content`, and this line has a `version` or a `token` "
+                "beside it: give each a line"])
+
     def test_a_content_check_asks_one_question(self):
         line = {"request": {"checks": [key("user:a") | {"correlation_id": "1"}, key("user:b") | {"correlation_id": "2"}]},
                 "response": {"result": {"1": {"allowed": True}, "2": {"allowed": True}}}, "snapshot": 2, "content": {"version": "v"}}
@@ -124,7 +131,10 @@ class OpenFga(CallsCase):
 
     def test_changes_within_a_call(self):
         page = {"request": {"page_size": 50}, "response": {"changes": [change("user:c", at="2024-01-01T00:00:03Z")]}}
-        self.imported(*self.words(page, {"request": key("user:c"), "response": {"allowed": True}, "snapshot": 3}))
+        empty = {"request": {"continuation_token": "x"}, "response": {"continuation_token": "x"}}
+        said = self.imported(*self.words(page, empty, {"request": key("user:c"), "response": {"allowed": True}, "snapshot": 3}))
+        self.assertIn("passed over 1: other call (ReadChanges)\n", said)
+        self.assertNotIn("not audited", said)
         self.assertIn("verdict clean", self.audited())
 
     def test_a_store_file(self):
@@ -185,6 +195,9 @@ class SpiceDb(CallsCase):
                   for line in (resources, subjects)]
         self.assertIn("passed over 2: failed request (4)\n", self.imported(*self.words(*broken)))
         self.assertEqual(self.goals(), ["doc:1#view@a true", "doc:2#view@a true", "doc:1#view@b true"])
+        apart = resources | {"response": [resources["response"][0], resources["response"][1] | {"lookedUpAt": {"token": token_text(6)}}]}
+        self.assertEqual(self.struck(*self.words(apart)), [
+            "log:2: %s: the answers of this lookup have several `lookedUpAt`: give each state a line, with the request" % causes.UNREADABLE])
         odd = resources | {"response": [*resources["response"], {"lookedUpAt": at, "resourceObjectId": 7}]}
         self.assertEqual(self.struck(*self.words(odd)), ["log:2: %s: one of several of this line" % causes.UNREADABLE])
 

@@ -71,3 +71,46 @@ class Circles(Case):
             self.assertEqual((report.count("F10 wrong reply"), report.count("\nfindings 1\n")), (planted is not None,) * 2, "seed %d" % seed)
             struck += len(wanted)
         self.assertGreater(struck, LOGS)
+
+
+BLOCKED = json_of({"group": {"member": (["user", "group#member"], ("this",))}, "doc": {
+    "blocked": (["user", "group#member"], ("this",)), "viewer": (["user"], ("difference", ("this",), ("computed", "blocked"))),
+    "editor": (["user", "group#member"], ("this",))}}, "m")
+RING = (change("group:h#member", "member", "group:g"), change("group:g#member", "member", "group:h", at="2024-01-01T00:00:02Z"))
+
+
+class CirclesThatAreTakenAway(Case):
+    """The service's exclusion is false where the subtracted side reports a circle of groups; no rule of a trace says so."""
+
+    def words(self, *lines):
+        self.put("model.json", json.dumps(BLOCKED))
+        self.put("log", lines)
+        return "openfga", "--model", "model.json", "--from-empty", "log"
+
+    def test_what_hangs_on_one_is_not_audited(self):
+        log = (*RING, change("group:h#member", "blocked", "doc:1", at="2024-01-01T00:00:03Z"), change("user:a", at="2024-01-01T00:00:04Z"),
+               change("user:a", thing="doc:2", at="2024-01-01T00:00:05Z"), check(allowed=False, at=5))
+        others = check(thing="doc:2", at=5), check("user:a", "member", "group:g", False, 5), check("user:a", "blocked", allowed=False, at=5)
+        self.assertEqual(self.struck(*self.words(*log, *others)), ["log:6: check by a rule that takes away what leads into a circle: doc:1#viewer@user:a"])
+        self.assertEqual(self.audited(), "entries 3\nfindings 0\nverdict clean\n")
+
+    def test_nor_is_it_in_a_log_of_the_recorder_of_such_a_service(self):
+        def stored(thing, user):
+            return [*thing.replace("#", ":").split(":"), *user.replace("#", ":").split(":")]
+        rules = {"event": "rules", "namespaces": [{"name": "group", "relations": [{"name": "member"}]}, {"name": "doc", "relations": [
+            {"name": "blocked"}, {"name": "viewer", "rewrite": {"exclusion": {"base": {"this": {}}, "subtract": {"computed": "blocked"}}}}]}]}
+        add = [stored("group:g#member", "group:h#member"), stored("group:h#member", "group:g#member"), stored("doc:1#blocked", "group:g#member"),
+               stored("doc:1#viewer", "user:a")]
+        lines = [rules, {"event": "write", "revision": 0, "base": True, "add": add},
+                 {"event": "check", "goal": stored("doc:1#viewer", "user:a"), "snapshot": 0, "reply": False}]
+        for service, wanted in ("openfga", 1), ("spicedb", 0):
+            self.put("log", [{"event": "log", "number": 1, "before": None, "service": service}, *lines])
+            self.assertEqual(len(self.struck("events", "log")), wanted)
+
+    def test_groups_in_groups_are_no_circle_nor_is_one_that_nothing_takes_away(self):
+        chain = RING[0], change("group:h#member", "blocked", "doc:1", at="2024-01-01T00:00:03Z"), change("user:a", at="2024-01-01T00:00:04Z")
+        self.assertEqual(self.struck(*self.words(*chain, check(allowed=False, at=3))), [])
+        self.assertIn("F10 wrong reply", self.audited())
+        given = (*RING, change("group:h#member", "editor", "doc:1", at="2024-01-01T00:00:03Z"), change("user:a", at="2024-01-01T00:00:04Z"))
+        self.assertEqual(self.struck(*self.words(*given, check(at=4), check("user:a", "editor", allowed=False, at=4))), [])
+        self.assertEqual(self.audited(), "entries 2\nfindings 0\nverdict clean\n")

@@ -2,6 +2,7 @@
 import json
 import os
 import re
+from itertools import permutations
 from random import Random
 from unittest import mock
 
@@ -189,6 +190,8 @@ class Order(CoreCase):
             "log:2: the line has no `time`, which --skew orders by", "log:3: `time` is no time of RFC 3339",
             "log:5: its time is before that of log:4, of the same clock",
             "log:6: `sequence` is no whole number", "log:7: `clock` is no text"])
+        for time in "0001-01-01T00:00:00+10:00", "9999-12-31T23:59:59-10:00":
+            self.assertEqual(self.refusals(RULES, write(1, time=time), check(1, time=time)), ["log:%d: `time` is no time of RFC 3339" % line for line in (2, 3)])
 
     def test_revisions_rise(self):
         self.assertEqual(self.refusals(RULES, write(2, rel()), check(2), write(2), write(1), write(3)), [
@@ -437,6 +440,19 @@ class FilesInAnyOrder(CoreCase):
             self.imported("events", *names)
             self.assertEqual(re.findall("F[0-9]+ .*", self.audited()), ["F2 old token, see line 5", "F10 wrong reply"])
             os.remove(self.path("ids.jsonl"))
+
+    def test_rules_that_change_in_a_file_that_is_read_before_that_of_the_first(self):
+        later = {"event": "rules", "revision": 2, "namespaces": [{"name": "doc", "relations": [
+            {"name": "viewer"}, {"name": "reader", "rewrite": {"computed": "viewer"}}]}]}
+        last = {"event": "rules", "revision": 3, "namespaces": [{"name": "doc", "relations": [{"name": "reader", "rewrite": {"this": {}}}]}]}
+        reads = [check(at, reply, rel(relation="reader")) for at, reply in ((2, True), (3, False))]
+        lines = [one | {"sequence": number} for number, one in enumerate((RULES, write(1, rel()), later, reads[0], last, reads[1]))]
+        for order in permutations(range(3)):
+            names = ["log%d" % number for number in order]
+            for name, some in zip(("log0", "log1", "log2"), (lines[:2], lines[2:4], lines[4:])):
+                self.put(name, some)
+            self.imported("events", "--from-empty", *names)
+            self.assertEqual(self.audited(), "entries 2\nfindings 0\nverdict clean\n", names)
 
     def test_a_gap_without_a_number_costs_no_order(self):
         lines = [one | {"sequence": number} for number, one in enumerate([*self.LINES, check(2, version="w", token=2), check(3, True)])]

@@ -65,6 +65,13 @@ class Demands(Case):
         for consistency in {"fullyConsistent": True}, {"fully_consistent": True}:
             self.assert_demands(lambda *at: self.spicedb(consistency, *at), lambda *at: self.spicedb({"minimizeLatency": True}, *at))
 
+    def test_a_consistency_that_spicedb_does_not_have(self):
+        self.put("schema.zed", test_spicedb.SCHEMA % test_spicedb.VIEW)
+        odd = "full", 1.5, {"Requirement": {"FullyConsistent": True}}, {"fullyConsistent": "true"}, {"fullyConsistent": False}
+        self.put("log", [test_spicedb.watch(1, test_spicedb.update("user:a")), *(test_spicedb.check(1, request={"consistency": one}) for one in (*odd, {}, None))])
+        self.assertEqual(self.struck("spicedb", "--schema", "schema.zed", "--from-empty", "log"), [
+            "log:%d: check that can't be read: unknown consistency %s" % (line, one) for line, one in enumerate(odd, 2)])
+
     def test_spicedb_on_postgres(self):
         kinds = {"revision": lambda at: test_postgres.revision(10 + at, 10 + at), "own": lambda at: test_postgres.revision(9 + at, 10 + at, own=9 + at)}
         self.assert_demands(lambda *at: self.spicedb({"fullyConsistent": True}, *at, **kinds), lambda *at: self.spicedb({}, *at, **kinds))

@@ -272,6 +272,8 @@ class Folders(Case):
         self.log("a", *lines()[1:])
         self.assertEqual(self.run_process("join", "--out", "all", "a", "a").returncode, 3)
         self.assertEqual(self.run_process("join", "--out", "a", "a").returncode, 2)
+        for words in ("--took", "inf"), ("--stale-by", "nan"), ("--skew", "-1"):
+            self.assertEqual(self.run_process("join", "--out", "all", "a", *words).returncode, 3)
 
 
 class Processes(OpenFga):

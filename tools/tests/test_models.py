@@ -110,6 +110,12 @@ class TightenedModels(Case):
         self.assertEqual(self.refused(*self.words(wide, *log, call)), [
             "log:5: the line of this WriteAuthorizationModel has no response, so that it is not known whether the model came into force"])
 
+    def test_a_rule_of_a_later_model_is_refused_at_the_line_that_has_it(self):
+        odd = json_of({"doc": {"viewer": (["user"], ("difference", ("this",), ("computed", "viewer")))}}, "odd")
+        found, = self.refused(*self.words(model(["user"], "first"), change("user:a"), {"authorization_model": odd}, check(at=1, request=of("odd"))))
+        self.assertTrue(found.startswith("log:2: recursion through exclusion, by the rule of doc#viewer of model odd: "), found)
+        self.assertIn(" at log:2", found)
+
     def test_a_model_without_an_id_is_one_of_the_log(self):
         first = {key: value for key, value in model(["user"], "").items() if key != "id"}
         log = change("user:a"), check(at=1, request=of("one")), check(at=1, request=of("one"))

@@ -84,6 +84,12 @@ class OfSpiceDb(Case):
         self.assertEqual(sorted(row["reason"] for row in made if row["event"] == "unmapped"), sorted([
             causes.UNREADABLE, "a snapshot of PostgreSQL, which only ne import spicedb can place", causes.CONTEXT_OF_CAVEATS, causes.CONDITIONAL]))
 
+    def test_calls_that_have_one_id_at_once_are_not_told_apart(self):
+        made, passed = joined(TOKENS, [payload(1, 5, ASKED), payload(1, 6, {**ASKED, "permission": "other"}), payload(1, 7, told(1, 1)), payload(1, 8, told(1)),
+                                       payload(2, 9, ASKED), payload(2, 10, told(1))])
+        self.assertEqual([row.get("reason", row["event"]) for row in made if row["event"] in ("check", "unmapped")], [causes.UNREADABLE] * 2 + ["check"])
+        self.assertEqual(passed, {})
+
     def test_values_that_no_service_writes(self):
         """One such check costs no other its place."""
         def fresh(one):
@@ -149,6 +155,10 @@ class Parts(Case):
         self.assertEqual(self.places(made), [[1, 1]])
         self.assertEqual(passed, Counter({overheard.OTHER: 2, overheard.FAILED: 2, overheard.OTHER_STORE: 2}))
 
+    def test_a_response_without_its_call_is_counted(self):
+        _, passed = joined(log((10, "a")), [{key: one for key, one in logged(15).items() if key not in ("raw_request", "grpc_method")}])
+        self.assertEqual(passed, {overheard.OTHER: 1})
+
     def test_what_can_not_be_taken_is_counted(self):
         untold = logged(15, store_id="S")
         del untold["raw_request"], untold["raw_response"]
@@ -176,6 +186,23 @@ class Parts(Case):
         made, _ = joined(log((10, "a")), [one])
         self.assertEqual([row["reply"] for row in made if row["event"] == "check"], [False])
 
+    def test_labels_by_their_bytes(self):
+        """Envoy has those that are no UTF-8 as bytes; two that differ are two."""
+        rows = [tapped(12, 15, x_content_save="v"), tapped(16, 18, x_content_version="v"), tapped(16, 18, x_content_version="v")]
+        for row, label in zip(rows, (b"\xe0", b"\xe0", b"\xc5")):
+            header = row["http_buffered_trace"]["request"]["headers"][-1]
+            header["raw_value"] = base64.b64encode(label).decode()
+            del header["value"]
+        made, _ = joined(log((10, "a")), rows)
+        save, shown, other = [row["version"] for row in made if row["event"] in ("check", "content")]
+        self.assertTrue(save == shown != other, (save, shown, other))
+
+    def test_a_field_that_the_call_does_not_have(self):
+        """It must not turn a check into another call, which decided nothing."""
+        asked = {"tuple_key": KEY, "checks": []}
+        made, _ = joined(log((10, "a")), [tapped(12, 15, asked)])
+        self.assertEqual(self.places(made), ["CheckRequest has a field that is not known (checks)"])
+
     def test_taps_that_can_not_be_taken_are_counted(self):
         twice = tapped(12, 15)
         twice["http_buffered_trace"]["request"]["headers"] += [{"key": "X-Content-Save", "value": "v"}] * 2
@@ -190,6 +217,8 @@ class Parts(Case):
     def test_what_is_refused(self):
         untimed = tapped(12, 15)
         del untimed["http_buffered_trace"]["response"]["headers_received_time"]
+        raw = tapped(12, 15)
+        raw["http_buffered_trace"]["request"]["headers"].append({"key": "x", "raw_value": "AAA"})
         for rows, told in (
                 ([logged(15, verison="v")], 'heard:1: unknown key "verison"; is "version" meant?'),
                 ([logged(15, timestamp=None)], "heard:1: the line has no `timestamp`, as seconds since 1970 or as a time of RFC 3339"),
@@ -200,6 +229,7 @@ class Parts(Case):
                 ([logged(15, {"store_id": "T"})], "heard has checks of the store T alone, and the logs are of S"),
                 ([{"http_streamed_trace_segment": {}}], "heard:1: a tap of the kind `http_streamed_trace_segment`; set `streaming: false` in the tap "
                  "filter of HTTP"),
+                ([raw], "heard:1: a header of the tap has a `raw_value` that is no Base64"),
                 ([untimed], "heard:1: the tap does not say when its headers came; set `record_headers_received_time: true` in the tap filter")):
             with self.subTest(told), self.assertRaises(JoinFault) as found:
                 joined(log((10, "a")), rows)

@@ -268,7 +268,7 @@ class Library(Case):
         with made.asked("user:bob", "viewer", "document:x"):
             pass
         with self.assertRaises(KeyError), made.asked("user:bob", "viewer", "document:x"):
-            raise KeyError
+            raise KeyError  # before it has its answer
         made.close()
         rows = self.rows(made.path)
         self.assertEqual([row["event"] for row in rows], ["own", "asked", "over"])
@@ -285,6 +285,50 @@ class Library(Case):
         made.close()
         self.assertEqual([(row["event"], row.get("count")) for row in self.rows(made.path)], [("own", None), ("lost", 2), ("asked", None), ("over", None)])
 
+    def test_an_application_that_fails_behind_its_answer(self):
+        """The check had its answer, whatever came of it."""
+        made = library().Events(self.path("events"), "S")
+        with self.assertRaises(PermissionError), made.asked("user:bob", "viewer", "document:x") as one:
+            one.reply = False
+            raise PermissionError
+        made.close()
+        self.assertEqual([(row["event"], row.get("reply")) for row in self.rows(made.path)], [("own", None), ("asked", False), ("over", None)])
+
+    def test_what_a_line_can_not_have_is_counted(self):
+        """Such a line would cost the whole file; a number as a label is its text."""
+        made = library().Events(self.path("events"), "S")
+        for reply, more in ((object(), {}), ({"allowed": True}, {}), (True, {"saves": ""}), (True, {"saves": "a", "shows": "b"}), (True, {"model": object()}),
+                            (True, {"shows": 7, "newest": 1})):
+            with made.asked("user:bob", "viewer", "document:x", **more) as one:
+                one.reply = reply
+        with made.asked(7, "viewer", "document:x") as one:
+            one.reply = True
+        made.close()
+        rows = self.rows(made.path)
+        self.assertEqual([(row["event"], row.get("count"), row.get("shows")) for row in rows],
+                         [("own", None, None), ("lost", 4, None), ("lost", 1, None), ("asked", None, "7"), ("lost", 1, None), ("over", None, None)])
+        self.assertEqual(own_of(Given("own", lambda: (Row("own", number, row) for number, row in enumerate(rows, 1)), True)).rows[2].value["newest"], True)
+
+    def test_what_was_lost_last_is_counted_at_the_end(self):
+        made = library().Events(self.path("events"))
+        with made.asked("user:bob", "viewer", "document:x") as one:
+            one.reply = True
+        made.close()
+        self.assertEqual([(row["event"], row.get("count")) for row in self.rows(made.path)], [("own", None), ("lost", 1), ("over", None)])
+
+    def test_what_is_asked_behind_the_end(self):
+        """It stands in another file, which has no end; and in no file that got the number of the first."""
+        made = library().Events(self.path("events"), "S")
+        first = made.path
+        made.close()
+        made.close()
+        other = os.open(self.path("other"), os.O_CREAT | os.O_WRONLY)
+        for chance in (mock.Mock(side_effect=OSError), os.write):
+            with mock.patch("os.write", chance), made.asked("user:bob", "viewer", "document:x") as one:
+                one.reply = True
+        os.close(other)
+        self.assertEqual([[row["event"] for row in self.rows(path)] for path in (first, made.path)], [["own", "over"], ["own", "lost", "asked"]])
+        self.assertEqual((self.get("other"), len(os.listdir(self.path("events")))), ("", 2))
 
     def test_a_clock_that_goes_back(self):
         """It costs the check that was under way, and not the whole file."""

@@ -117,6 +117,33 @@ class OpenFga(LogCase):
         self.assertEqual(self.report(change("user:a"), change("user:a", thing="doc:2"), *lines), "entries 5\nfindings 0\nverdict clean\n")
         self.assertIn("passed over 3: call that found nothing\n", self.said)
 
+    def test_each_answer_of_a_stream_in_a_line_of_the_servers_log(self):
+        """The server prints each under the same key, and no such key where it found nothing."""
+        asked = {"store_id": "s", "type": "doc", "relation": "viewer", "user": "user:a"}
+        line = json.dumps(self.printed("StreamedListObjects", asked, {"object": "doc:1"}, snapshot=2))
+        two = line.replace('"raw_response"', '"raw_response": {"object": "doc:2"}, "raw_response"')
+        none = self.printed("StreamedListObjects", asked, snapshot=2)
+        words, head = self.words(), [json.dumps(one) for one in (change("user:a"), change("user:a", thing="doc:2", at=AT % 2), none)]
+        def put(*lines):
+            self.put("log", "\n".join((*head, *lines)))
+        put(two, line)
+        self.assertIn("passed over 1: call that found nothing\n", self.imported(*words))
+        self.assertEqual(self.audited(), "entries 3\nfindings 0\nverdict clean\n")
+        put(line, two.replace("doc:2", "doc:3"))
+        self.imported(*words)
+        self.assertEqual(self.audited().count("F10 wrong reply"), 1)
+        self.forget()
+        put(two.replace('"level"', '"level": "info", "level"'))
+        self.assertEqual(self.refused(*words), ["log:4: the key 'level' stands twice"])
+
+    def test_the_model_that_the_server_took_for_a_request_that_names_none(self):
+        key = {"user": "user:a", "relation": "viewer", "object": "doc:1"}
+        lines = [self.printed("Check", request, {"allowed": True}, snapshot=1, authorization_model_id=taken) for request, taken in (
+            ({"tuple_key": key}, "M"), ({"tuple_key": key, "authorization_model_id": ""}, "M"), ({"tuple_key": key}, "N"))]
+        log = change("user:a"), *lines[:2] * 4, lines[2], lines[0]
+        self.assertEqual(self.struck(*self.words(*log)), ["log:10: check with another model: doc:1#viewer@user:a"])
+        self.assertEqual(self.audited(), "entries 9\nfindings 0\nverdict clean\n")
+
     def test_an_answer_of_all_models(self):
         old, new = (json_of({"doc": {"viewer": (users, ("this",))}}, name) for users, name in ((["user", "user:*"], "old"), (["user"], "new")))
         checks = [self.check(at=1, allowed=allowed, request={"authorization_model_id": name}) for allowed, name in ((True, "old"), (False, "new"))]
@@ -227,6 +254,28 @@ class SpiceDb(LogCase):
             "log:2: check that can't be read: the log has no request of the response with the `requestID` 1",
             "log:3: check that can't be read: the log has no response of this request",
             "log:4: check that can't be read: the line has no `requestID`, which joins a request and its response"])
+
+    def test_calls_of_one_id_that_are_under_way_at_once_are_not_told_apart(self):
+        """A client may choose the ids of its requests."""
+        (one, answer), (other, denial) = self.checked("1", "user:a", 2, 1), self.checked("1", "user:b", 1, 1)
+        ended = self.printed("CheckPermission", "1", "finished call", **{"grpc.code": "OK"})
+        first, last = watch(1, update("user:a")), self.checked("2", "user:b", 1, 1)
+        told = "several calls with the `requestID` 1 were under way at once, and it is not known which this response is of"
+        self.assertEqual(self.struck(*self.words(first, one, other, denial, ended, answer, ended, *last)),
+                         ["log:%d: check that can't be read: %s" % (line, told) for line in (4, 6)])
+        self.assertEqual(self.audited(), "entries 1\nfindings 0\nverdict clean\n")
+        self.assertEqual(self.struck(*self.words(first, one, other, denial, *last)), [
+            "log:3: check that can't be read: the log has no response of this request", "log:4: check that can't be read: " + told])
+        self.assertEqual(self.struck(*self.words(first, one, answer, ended, other, denial, ended)), [])
+
+    def test_half_of_a_call_that_wrote_is_refused(self):
+        update = {"operation": 2, "relationship": {"resource": self.thing("doc:1"), "relation": "viewer", "subject": {"object": self.thing("user:a")}}}
+        calls = [self.asked(call, "w", request, {"written_at": {"token": token_text(1)}}) for call, request in (
+            ("WriteRelationships", {"updates": [update]}), ("WriteSchema", {"schema": SCHEMA % VIEW}))]
+        for half, told in enumerate(("the log has no response of this request", "the log has no request of the response with the `requestID` w")):
+            self.assertEqual(self.refused(*self.words(calls[1][half], *self.checked("1", "user:a", 1, 2))), ["log:1: " + told])
+            found, = self.refused(*self.words(calls[0][half], *self.checked("1", "user:a", 2, 2)))
+            self.assertTrue(found.startswith("log:1: this WriteRelationships wrote, and no line of the log says all of what: give the watch stream"), found)
 
     def test_calls_of_which_the_log_has_no_payload_are_counted(self):
         def ended(call, request_id, **more):

@@ -198,7 +198,7 @@ class Joined(PrintedCase):
             carrying, places = Carrying(), list(located.Source(self.path("log")).placed())
             found = list(carrying.carried(places))
         self.assertGreater(len(found), 5)
-        self.assertEqual(carrying.left(), [1])
+        self.assertEqual(carrying.left(), [(1, "WriteRelationships")])
         self.assertTrue(any(one.waiting for one in found))
         with mock.patch.object(carried, "ANSWERED", 3):
             carrying = Carrying()

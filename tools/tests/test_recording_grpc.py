@@ -183,6 +183,19 @@ class Cut(Case):
         self.assertEqual(seen, [(None, []), (b"request", ["Started"])])
         self.assertEqual((told[1].status, told[1].strange), (200, "X-Content-Save stands twice"))
 
+    def test_what_metadata_goes_on(self):
+        """All but what gRPC itself says of a connection, and not less for what begins alike."""
+        passed = []
+        relay = self.module.GrpcRelay(None, SimpleNamespace(tell=passed.append))
+
+        async def keep(method, requests, context, metadata, kept):
+            passed.append(metadata)
+            return True
+        relay._passed = keep
+        given = [("te", "trailers"), ("tenant-id", "t"), ("user-agent", "a"), ("user-agent-of", "b"), ("content-type", "c"), ("grpc-timeout", "1S")]
+        asyncio.run(relay.pass_on("/other", None, SimpleNamespace(invocation_metadata=lambda: given)))
+        self.assertEqual(passed, [[("tenant-id", "t"), ("user-agent-of", "b")]])
+
     def test_by_its_client(self):
         self.assertEqual(self.told(0, asyncio.CancelledError(), False), [(0, None)])
         self.assertEqual(self.told(2, asyncio.CancelledError(), False), [(200, None)])

@@ -16,14 +16,19 @@ from urllib.parse import urlsplit
 from new_enemy_tools.importing.chained import end_of, head_of
 from new_enemy_tools.importing.reading import Bad
 from new_enemy_tools.importing.times import nanoseconds
+from new_enemy_tools.recording.asking import FeedFault
+from new_enemy_tools.recording.core import FULL, Core
 from new_enemy_tools.recording.http_reading import BODY, Head, Messages, Strange, path_of
+from new_enemy_tools.recording.keeper import Settings
 from new_enemy_tools.recording.log_files import LATER, InUse, LogFault, LogFiles, Place
 from new_enemy_tools.recording.lines import gap_line, line, write_line
 from new_enemy_tools.recording.messages import Beat, Bye, Ended, Lost, Started, Teller, messages_from, packed
 from new_enemy_tools.recording.relay import Relay
 from new_enemy_tools.recording.openfga import asks_for_newest, call_of as openfga_call
+from new_enemy_tools.recording.openfga_feed import PAGE, OpenFgaFeed
 from new_enemy_tools.recording.sequencer import Commit, Known, Sequencer
 from new_enemy_tools.recording.spicedb import call_of as spicedb_call
+from new_enemy_tools.recording.spicedb_http import HttpSource
 from tests.support import Case
 
 SESSIONS = 300
@@ -95,7 +100,7 @@ class Reading(Case):
                      post + b"A: b\r\n folded\r\n\r\n", post + b"Content-Length: +2\r\n\r\n{}", chunked + b"+1\r\na\r\n0\r\n\r\n",
                      chunked + b"0x1\r\na\r\n0\r\n\r\n", chunked + b"1_0\r\n", chunked + b"1\na\r\n0\r\n\r\n", chunked + b"1\r\nab\r\n0\r\n\r\n",
                      post + b"A: b\x0bc\r\n\r\n", post + b"A: \x7f\r\n\r\n", chunked + b"0\r\nbad trailer\r\n\r\n", chunked + b"0\r\nA : b\r\n\r\n",
-                     b"\x16\x03\x01"):
+                     b"\x16\x03\x01", b"POST /x HTTP/1.0\r\nTransfer-Encoding: chunked\r\n\r\n0\r\n\r\n"):
             for size in (1, 3, len(data)):
                 with self.subTest(data=data, size=size), self.assertRaises(Strange):
                     read_along(data + b"GET /later HTTP/1.1\r\n\r\n", lambda size=size: size)
@@ -116,8 +121,8 @@ class Reading(Case):
 
     def test_which_path(self):
         self.assertEqual([path_of(one) for one in ("/stores/S/%63heck", "/stores/S/check#x", "/stores/S/check?a=/b", "http://host/stores/S/check",
-                                                   "/stores/%53/check", "*")],
-                         ["/stores/S/check"] * 5 + ["/"])
+                                                   "/stores/%53/check", "/stores/S/./x/%2e./check", "/stores//S/check", "*")],
+                         ["/stores/S/check"] * 7 + ["/"])
 
     def test_a_body_that_is_too_long_is_not_kept(self):
         data = b"POST / HTTP/1.1\r\nContent-Length: %d\r\n\r\n" % (BODY + 1) + b"x" * (BODY + 1) + b"GET / HTTP/1.1\r\n\r\n"
@@ -128,8 +133,77 @@ class Reading(Case):
                          ["check", "batch", "write", None, None])
         self.assertIsNone(openfga_call("GET", "/stores/A/check"))
         self.assertEqual(openfga_call("POST", "/prefix/stores/A/streamed-list-objects"), "stream")
-        self.assertEqual([spicedb_call("POST", path) for path in ("/v1/permissions/check", "/a/v1/permissions/resources", "/v1/watch")],
+        self.assertEqual([spicedb_call("POST", path) for path in ("/v1/permissions/check", "/api/v1/a/v1/permissions/resources", "/v1/watch")],
                          ["check", "stream", None])
+
+
+class Asking(Case):
+    """The recorder's own requests."""
+
+    def source(self, answer, stays=False):
+        """Of SpiceDB, from a service that gives an answer and then stands still, or closes the connection."""
+        server = socket.create_server(("127.0.0.1", 0))
+        self.addCleanup(server.close)
+
+        def serve():
+            one, _ = server.accept()
+            self.addCleanup(one.close)
+            # What was not read when a connection is closed resets it.
+            asked = b""
+            while not asked.endswith(b"}"):
+                asked += one.recv(1 << 16)
+            one.sendall(b"HTTP/1.1 200 OK\r\n" + answer)
+            if not stays:
+                one.close()
+        threading.Thread(target=serve, daemon=True).start()
+        return HttpSource("http://127.0.0.1:%d" % server.getsockname()[1], None)
+
+    def test_a_service_that_stands_still(self):
+        """Where changes are waited for that is no fault; a base state without its end is none."""
+        with mock.patch("new_enemy_tools.recording.spicedb_http.QUIET", 0.2):
+            for stays in True, False:
+                self.assertEqual(list(self.source(self.CHUNKED, stays).watch("t")), [{"a": 1}])
+            self.assertEqual(self.fault(self.CHUNKED, True), "timed out")
+
+    CHUNKED = b'Transfer-Encoding: chunked\r\n\r\n13\r\n{"result":{"a":1}}\n\r\n'
+
+    def fault(self, answer, stays=False):
+        """Why a base state can't be read; None where it can."""
+        try:
+            list(self.source(answer, stays).relationships("document", "t"))
+        except FeedFault as fault:
+            return str(fault).removeprefix("/v1/relationships/read ends: ")
+        return None
+
+    def test_a_base_state_that_is_cut(self):
+        """It is none where it may go on: its end has to be seen."""
+        line = b'{"result":{"a":1}}\n'
+        for answer, is_whole in ((self.CHUNKED + b"0\r\n\r\n", True), (b"Content-Length: 19\r\n\r\n" + line, True), (self.CHUNKED, False),
+                                 (b"Content-Length: 38\r\n\r\n" + line, False), (b"\r\n" + line, False)):
+            self.assertEqual(self.fault(answer) is None, is_whole, answer)
+
+    def test_pages_that_do_not_go_on(self):
+        page = {"changes": [{}] * PAGE, "continuation_token": "t"}
+        source = mock.Mock(changes=mock.Mock(return_value=page))
+        feed = OpenFgaFeed(Settings("openfga", "", "", "S", None, False, 30, 0.05, 0, 1, 1), source)
+        with mock.patch("new_enemy_tools.recording.openfga_feed._change"), self.assertRaises(FeedFault) as found:
+            list(feed._pages(None))
+        self.assertEqual(str(found.exception), "the changes do not go on: a whole page ends with the token that it was asked by")
+
+
+    def test_models_between_two_readings(self):
+        """Where several came, it is said that some were not read."""
+        listed, told = [], []
+        source = mock.Mock(changes=lambda *words: {}, model=lambda store, size: (listed[0]["id"], listed[:size]), models=list)
+        feed = OpenFgaFeed(Settings("openfga", "", "", "S", None, False, 30, 0.05, 0, 1, 1), source)
+        for ids in "a", "b", "", "dc", "e":
+            listed[:0] = [{"id": one, "schema_version": "1.1", "type_definitions": [{"type": "user"}]} for one in ids]
+            if ids == "a":
+                feed._begin(None, told.append)
+            else:
+                found = feed._read(1)
+                told.append((found.rules and found.rules[0].id, found.skips))
+        self.assertEqual(told[1:], [("b", False), (None, False), ("d", True), ("e", False)])
 
 
 class Demands(Case):
@@ -154,7 +228,7 @@ class Order(Case):
         made.put_commit(Commit(5, b"", 1))
         made.put_commit(Commit(7, b"", 2))
         made.put_entry(6, 0, b"six", 1)
-        self.assertEqual(self.drained(made), [5, b"five", b"six", 7])
+        self.assertEqual((self.drained(made), made.size), ([5, b"five", b"six", 7], 0))
 
     def test_a_commit_waits_for_content_checks_that_began_before(self):
         made = Sequencer()
@@ -180,7 +254,17 @@ class Order(Case):
         made.put_entry(9, 1, b"old", 1)
         made.put_entry(8, 3, b"young", 1)
         self.assertEqual([one.data for one in made.take_out(lambda one: one.since < 2)], [b"old"])
-        self.assertEqual([one.data for one in made.ready], [b"young"])
+        self.assertEqual(([one.data for one in made.ready], made.size), ([b"young"], 5))
+
+    def test_how_much_waits(self):
+        """A call that has no room is lost, and not the memory of the machine."""
+        core = Core(mock.Mock(), 30)
+        for _ in range(3):
+            core.sequencer.put_entry(9, 1, b"x" * 30, 1)
+        message = Ended(2, "check", "", 0, 0, 0, None, None, None, 200, None, None, None)
+        with mock.patch("new_enemy_tools.recording.core.ROOM", 80):
+            core.tried(message, lambda: core.put_entries(message, [], 9))
+        self.assertEqual(core.lost, {FULL: 1})
 
     def test_what_was_known_when(self):
         for seed in range(100):

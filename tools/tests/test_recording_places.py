@@ -12,13 +12,14 @@ from new_enemy_tools.importing.events import Relationship
 from new_enemy_tools.importing.openfga import ModelReader
 from new_enemy_tools.importing.refusals import Refusals
 from new_enemy_tools.recording.bearing import Bearing
-from new_enemy_tools.recording.core import Core, Now
+from new_enemy_tools.recording.core import FULL, Core, Now
 from new_enemy_tools.recording.log_files import LogFiles
 from new_enemy_tools.recording.messages import Beat, Ended, Started
-from new_enemy_tools.recording.openfga import Base, Changes, OpenFga
+from new_enemy_tools.recording.openfga import OTHER_STORE, Base, Changes, OpenFga
 from new_enemy_tools.recording.overlap import Change, Overlap
 from new_enemy_tools.recording.overlap import Known as Shown
 from new_enemy_tools.recording.places import Places, Row, Window, by_turns
+from new_enemy_tools.recording.spicedb import Feed as SpiceDbFeed, SpiceDb
 from new_enemy_tools.recording.stored import Stored
 from tests.simulation import RULES, STORE, Shape, Verdict, World, change_of
 from tests.support import Case
@@ -100,6 +101,22 @@ class BaseState(Case):
         for number in range(20_000):
             stored.take(Change(Relationship("document", "d%d" % (number % 700), "viewer", "user", "u%d" % number, None), True, number))
         self.assertLess(tracemalloc.get_traced_memory()[0] / 20_000, 220)
+
+    def test_memory_of_a_tuple_of_spicedb(self):
+        """Also while the log is begun with it."""
+        def relationships(of, token):
+            for number in range(20_000 if of == "document" else 0):
+                yield {"resource": {"objectType": of, "objectId": "d%d" % (number % 700)}, "relation": "viewer",
+                       "subject": {"object": {"objectType": "user", "objectId": "u%d" % number}}}
+        schema = "definition user {}\ndefinition document {\nrelation viewer: user\n}", "GhUKEzE3MDAwMDAwMDAwMDAwMDAwMDA="
+        source = mock.Mock(schema=lambda: schema, relationships=relationships)
+        core = Core(SpiceDb(), 30)
+        tracemalloc.start()
+        self.addCleanup(tracemalloc.stop)
+        core.take(SpiceDbFeed(source)._base(None), Now(1, 1))
+        lines = sum(one.count(b"document") for one in core.first)
+        self.assertEqual(lines, 20_001)
+        self.assertLess(tracemalloc.get_traced_memory()[1] / 20_000, 220)
 
 
 class Turns(Case):
@@ -198,12 +215,11 @@ class Writes(Case):
         self.at(received, Changes(began, received, True, read, None))
         self.at(received, Beat(received))
 
-    def check(self, began, ended, thing="d"):
+    def check(self, began, ended, thing="d", call="check", path="/stores/S/check", **more):
         number = next(self.numbers)
-        self.at(began, Started(number, began, False, "check"))
-        body = {"tuple_key": {"user": "user:a", "relation": "viewer", "object": "document:" + thing}, "consistency": "HIGHER_CONSISTENCY"}
-        self.at(ended, Ended(number, "check", "/stores/S/check", began, ended, ended, None, None, None, 200, json.dumps(body).encode(),
-                             b'{"allowed":true}', None))
+        self.at(began, Started(number, began, False, call))
+        body = {"tuple_key": {"user": "user:a", "relation": "viewer", "object": "document:" + thing}, "consistency": "HIGHER_CONSISTENCY", **more}
+        self.at(ended, Ended(number, call, path, began, ended, ended, None, None, None, 200, json.dumps(body).encode(), b'{"allowed":true}', None))
         return number
 
     def lost(self):
@@ -300,6 +316,66 @@ class Writes(Case):
             for number in range(8):
                 self.write(100 + number, 100 + number, "b%d" % number)
             self.assertEqual(len(self.service.made), 3)
+
+    def test_a_request_with_a_field_that_its_call_does_not_have(self):
+        """Services pass over such a field, so that it must not turn a check into another call, or into none."""
+        fields = {"checks": [], "type": "document", "user_filters": [], "as_of": 1}
+        for name, value in fields.items():
+            self.check(5, 6, **{name: value})
+        self.check(5, 6, contextualTuples={"tupleKeys": [{"user": "user:a", "relation": "viewer", "object": "document:d", "as_of": 1}]})
+        for known in ({"contextualTuples": {"tuple_keys": []}}, {"authorizationModelId": "", "trace": True, "context": {"any": 1}}):
+            self.check(5, 6, **known)
+        self.read(7, 8)
+        self.assertEqual(self.lost(), {**{"CheckRequest has a field that is not known (%s)" % name: 1 for name in fields},
+                                       "TupleKey has a field that is not known (as_of)": 1})
+        self.assertEqual([json.loads(one)["event"] for one in self.lines if b"user" in one][1:], ["check", "unmapped"])
+
+    def test_causes_that_come_from_clients_are_bounded(self):
+        with mock.patch("new_enemy_tools.recording.core.CAUSES", 3):
+            for number in range(9):
+                self.check(5, 6, **{"x%d" % number * 50: 1})
+        lost = self.lost()
+        self.assertEqual((len(lost), lost["other causes than 3"], sum(lost.values())), (4, 6, 9))
+        self.check(5, 6, thing="x y" * 1000)
+        self.assertLess(max(map(len, self.lost())), 250)
+
+    def test_a_store_that_is_made_again(self):
+        """Where nobody said which store is recorded, checks of another are lost, and counted; where somebody did, they are no loss."""
+        for store, lost in (None, {OTHER_STORE: 2}), (STORE, {}):
+            self.setUp()
+            self.service = OpenFga(store, 0, 30 * SECOND)
+            self.core.service = self.service
+            self.at(1, Base(STORE, None, Stored(), [], "end", *RULES, 0, 1))
+            for _ in range(2):
+                self.check(5, 6, path="/stores/T/check")
+            self.read(7, 8)
+            self.assertEqual((self.lost(), self.core.held), (lost, {}))
+
+    def test_models_that_come_one_behind_the_other_between_two_readings(self):
+        """A check may have looked by one that no reading showed; one that began behind the last is by that."""
+        self.check(3, 4)
+        self.at(5, Changes(2, 5, True, self.overlap.take([], "c", 2, 5), RULES, True))
+        self.at(5, Beat(5))
+        self.check(6, 7)
+        self.read(8, 9)
+        self.read(10, 11)
+        self.assertEqual((self.lost(), self.core.held), ({"the model and tuples changed at once": 1}, {}))
+        self.assertEqual([json.loads(one)["event"] for one in self.lines].count("check"), 1)
+
+    def test_how_many_decisions_wait(self):
+        with mock.patch("new_enemy_tools.recording.openfga.WAITING", 3):
+            for clock in (5, 5, 5, 5, 5):
+                self.check(clock, 6)
+            self.read(7, 8)
+            self.check(9, 10)
+            self.read(11, 12)
+            self.assertEqual((self.lost(), self.core.held), ({FULL: 2}, {}))
+            self.assertEqual([json.loads(one)["event"] for one in self.lines].count("check"), 4)
+
+    def test_of_what_waits_no_bodies_are_kept(self):
+        """The changes may stand still for as long as `--hold`."""
+        self.check(5, 6, context={"pad": "x" * 100_000})
+        self.assertEqual([(one.message.request, one.message.response) for one in self.service.waits], [(None, None)])
 
     def test_more_changes_than_an_import_looks_at(self):
         with mock.patch("new_enemy_tools.recording.openfga.STATES", 3):

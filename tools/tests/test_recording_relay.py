@@ -248,6 +248,16 @@ class Beginning(Case):
         self.answers(OK)
         self.assertEqual([one.strange for one in self.told if isinstance(one, Ended)], [None, "a request before whose turn its client ended"])
 
+    def test_a_service_that_ends_before_a_request_has_its_turn(self):
+        """It goes on as it came, and is told of no more than what can't be answered."""
+        for answer in b"HTTP/1.1 200 OK\r\n\r\n" + JSON, OK:
+            for cut in 1, 20:
+                self.setUp()
+                self.assertEqual(self.asks(self.REQUEST * 3 + self.REQUEST[:cut]), self.REQUEST)
+                self.reader.feed(self.reader.answers, answer[:-1])
+                self.reader.end()
+                self.assertEqual((self.asks(self.REQUEST[cut:]), self.kinds()), (self.REQUEST * 3, ["Started", "Ended"]))
+
     def test_a_long_request(self):
         data = HEAD + b"Content-Length: 3000000\r\n\r\n" + b"x" * 3_000_000
         self.assertEqual(self.asks(data[:2_000_000]) + self.asks(data[2_000_000:]), data)
@@ -259,6 +269,14 @@ class Beginning(Case):
         self.assertEqual(self.asks(self.REQUEST[:-1] + b"}" + bad), self.REQUEST + bad)
         self.assertEqual(self.kinds(), ["str", "Started", "Ended"])
         self.assertEqual((self.told[-1].response, self.asks(b"more")), (None, b"more"))
+
+    def test_a_tunnel(self):
+        """What goes through it is counted, and not held until an answer ends that has no end."""
+        connect = b"CONNECT x:1 HTTP/1.1\r\n\r\n"
+        self.assertEqual(self.asks(connect), connect)
+        self.answers(b"HTTP/1.1 200 OK\r\n\r\n")
+        self.assertEqual(self.asks(self.REQUEST), self.REQUEST)
+        self.assertEqual(self.told, ["a connection can't be read along: another protocol"] * 2)
 
     def test_an_answer_to_what_was_not_asked(self):
         self.asks(self.REQUEST[:-1])

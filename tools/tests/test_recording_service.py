@@ -110,13 +110,12 @@ class Saying(OpenFga):
         for _ in range(3):
             self.check(client, "user:a", "viewer", "document:1")
         self.check(client, "user:a", "viewer", "document:1", X_Content_Save="v", X_Content_Version="w")
-        told = {}
+        told, name = {}, "new_enemy_recorder_"
 
         def is_told():
             told.update(numbers_of(get(port, "/metrics")[1]))
-            return told.get("new_enemy_recorder_recorded_total") == 3
+            return told.get(name + "recorded_total") == 3 and any(one.startswith(name + "lost_total") for one in told)
         self.wait_for(is_told, lambda: str(told))
-        name = "new_enemy_recorder_"
         self.assertEqual({one: told[name + one] for one in ('requests_total{call="check"}', "connections", "gap_open", "waiting", "keeper_starts_total",
                                                             'lost_total{cause="X-Content-Save and X-Content-Version on one call"}')},
                          {'requests_total{call="check"}': 4, "connections": 1, "gap_open": 0, "waiting": 0, "keeper_starts_total": 1,
@@ -205,7 +204,9 @@ class Secured(OpenFga):
         self.put("bad", "no certificate\n")
         given = ["record", "--openfga", "http://127.0.0.1:1", "--listen", "127.0.0.1:%d" % free_port(), "--out", "log"]
         for words, told in ((["--tls-cert", "bad"], "--tls-cert and --tls-key can't be used"), (["--tls-key", "bad"], "--tls-key goes with --tls-cert"),
-                            (["--service-ca", "bad"], "--service-ca can't be used"), (["--metrics", "x"], "--metrics is no ADDRESS:PORT")):
+                            (["--service-ca", "bad"], "--service-ca can't be used"),
+                            (["--metrics", "x"], "--metrics is no ADDRESS:PORT"),
+                            (["--hold", "inf"], "a time is none below"), (["--poll", "nan"], "a time is none below"), (["--overlap", "-1"], "is below 0")):
             run = self.run_process(*given, *words)
             self.assertEqual(run.returncode, 3, run.stderr)
             self.assertIn(told, run.stderr)

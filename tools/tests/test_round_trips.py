@@ -4,6 +4,7 @@ import json
 from collections import Counter
 from random import Random
 
+from new_enemy_tools.importing import causes
 from tests import openfga_service, spicedb_service
 from tests.support import Case
 
@@ -209,10 +210,18 @@ class RoundTrips(Case):
                 break
         return answer, line_for
 
+    def left_out(self, service, number):
+        """The lines of the checks that are not audited, since a rule takes away what leads into a circle; these are few."""
+        struck = self.struck(*service.words, "--ids", "ids%d.jsonl" % number)
+        self.assertEqual({line.split(": ")[1] for line in struck} - {causes.CIRCLE_TAKEN_AWAY}, set())
+        self.assertLess(len(struck), CHECKS)
+        return {line.split(": ")[0] for line in struck}
+
     def compare(self, service, log, answers, number):
         self.put("rules", service.rules)
         self.put("log", log)
-        self.imported(*service.words, "--ids", "ids%d.jsonl" % number)
+        out = self.left_out(service, number)
+        answers = [is_right for line, is_right in enumerate(answers, len(log) - len(answers) + 1) if "log:%d" % line not in out]
         lines = self.get("trace.jsonl").splitlines()
         entries = [line for line, text in enumerate(lines, 1) if '"kind":"check"' in text[:20]]
         wanted = ["line %d: F10 wrong reply" % line for line, is_right in zip(entries, answers) if not is_right]
@@ -248,23 +257,23 @@ class RoundTrips(Case):
         for number in range(MODELS):
             service = OpenFgaBetween(Random("between %d" % number))
             log, states = service.changes()
-            wrong, entries = {}, 0
+            wrong, entries = {}, {}
             for _ in range(CHECKS):
                 answers, count, line_for = service.check_between(states)
                 both += len(answers) == 2
                 for reply in (True, False):
                     log.append(line_for(reply))
-                    entries += 1 if reply in answers else count
+                    entries["log:%d" % len(log)] = 1 if reply in answers else count
                     wrong.update({} if reply in answers else {"log:%d" % len(log): count})
             self.put("rules", service.rules)
             self.put("log", log)
-            self.imported(*service.words, "--ids", "ids%d.jsonl" % number)
+            out = self.left_out(service, number)
             rows = self.rows("trace.jsonl")
             *findings, first, _, _ = self.audited().splitlines()
-            self.assertEqual(first, "entries %d" % entries)
+            self.assertEqual(first, "entries %d" % sum(count for line, count in entries.items() if line not in out))
             found = Counter(rows[int(line.split()[1].rstrip(":")) - 1]["from"] for line in findings)
             self.assertEqual({line.split(": ")[1] for line in findings}, {"F10 wrong reply"})
-            self.assertEqual(found, wrong, "model %d" % number)
+            self.assertEqual(found, {line: count for line, count in wrong.items() if line not in out}, "model %d" % number)
         self.assertGreater(both, MODELS)
 
     def test_openfga(self):

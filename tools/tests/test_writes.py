@@ -64,11 +64,19 @@ class SpiceDb(Case):
         self.assertEqual(self.report(*log), "entries 1\nfindings 0\nverdict clean\n")
         self.assertEqual(self.report(watch(own, update("user:a")), *log), "entries 1\nfindings 0\nverdict clean\n")
         self.assertIn("passed over 1: other call (WriteRelationships)\n", self.said)
+        second = written(test_postgres.revision(12, 13, own=12), update("user:b"))
+        newest = self.check(test_postgres.revision(13, 13), "user:b")
+        for late in (log[1], newest, log[0], second), (log[0], newest, second, log[1]), (newest, second, log[0], log[1]):
+            self.assertEqual(self.report(*late), "entries 2\nfindings 0\nverdict clean\n")
+            self.assertIn("a check saw this write before the line of its call", self.said)
+        self.assertIn("F10 wrong reply", self.report(newest, *log, second, self.check(after, "user:b")))
+        self.assertIn("F4 open snapshot", self.report(newest, log[0], log[1], watch(test_postgres.revision(12, 13, own=12), update("user:b"))))
 
     def test_a_log_whose_writes_are_not_all_told_is_refused(self):
         delete = {"request": {"relationshipFilter": {"resourceType": "doc"}}, "response": {"deletedAt": {"token": token_text(3)}}}
         load = {"request": {}, "response": {}, "method": "/authzed.api.v1.PermissionsService/ImportBulkRelationships"}
-        said = "and no line of the log says all of what: give the watch stream, which has each change with its revision"
+        said = ("and no line of the log says all of what: give the watch stream, which has each change with its revision, and put files together "
+                "that were cut between a request and its response")
         self.assertEqual(self.refused(*self.words(delete, self.check(3, reply="NO"), delete, load)), [
             "log:1: this DeleteRelationships wrote, " + said, "log:4: this ImportBulkRelationships wrote, " + said])
         self.assertEqual(self.report(watch(1, update("user:a")), delete, self.check(3)), "entries 1\nfindings 0\nverdict clean\n")

@@ -28,6 +28,8 @@ from new_enemy_tools.shown import tell
 
 # So many lines are written at once.
 LINES = 1000
+# No word is a time of so many seconds.
+MANY_SECONDS = 10 ** 9
 # More than a file has.
 MOST = 1 << 62
 
@@ -43,8 +45,8 @@ def given_of(words: list[str]) -> Namespace:
     parser.add_argument("logs", nargs="+", metavar="LOG", help="the folder of a recorder's log; or a file of an application's events, of "
                         "OpenFGA's own log, or a folder of Envoy's taps")
     given = parser.parse_args(words)
-    if min(given.skew, given.stale_by, given.took) < 0:
-        parser.error("--skew, --stale-by or --took is below 0")
+    if given.skew < 0 or not all(0 <= one < MANY_SECONDS for one in (given.stale_by, given.took)):
+        parser.error("--skew, --stale-by or --took is below 0, or no time below %d seconds" % MANY_SECONDS)
     if len(set(map(os.path.realpath, given.logs))) < len(given.logs):
         parser.error("one LOG stands twice")
     return given

@@ -168,7 +168,7 @@ def without_calls(lines: Lines, indexer: Indexer) -> tuple[Lines, int]:
 def with_calls(lines: Lines, key_of: Callable[[Row], object], has_revisions: bool, refusals: Refusals) -> tuple[Lines, int]:
     """The lines with calls as the writes that they are, and of how many calls the log's own changes have the write, as both have one key.
 
-    Where calls have revisions that checks see, each is put before the first line that saw it.
+    Where calls have revisions that checks see, each is put before the first line that saw it; those without a number as yet stay calls.
     """
     in_place = _in_place(lines) if has_revisions and not lines.facts.has_asked else None
     if in_place is not None:
@@ -198,7 +198,8 @@ def with_calls(lines: Lines, key_of: Callable[[Row], object], has_revisions: boo
         elif row[0] != CALL:
             made.add_row(row)
         elif places[place] is not None:
-            made.add_row(("write", *row[1:]))
+            # One of PostgreSQL has its number later.
+            made.add_row(row if row[12] is not None else _written(row))
         else:
             count += key_of(row) in known
     return made, count

@@ -8,7 +8,7 @@ from itertools import islice
 from typing import Callable, Iterable, Iterator, NamedTuple, Optional, Union
 
 from new_enemy_tools.importing.located import BLANK, Block, Place, Source, line_value
-from new_enemy_tools.importing.printed import ANSWERED, FINISHED, REQUEST, RESPONSE, Joining, Step, steps_of
+from new_enemy_tools.importing.printed import ANSWERED, FINISHED, REQUEST, RESPONSE, Joining, Step, call_of, steps_of
 from new_enemy_tools.importing.refusals import Refusals
 from new_enemy_tools.importing.spool import Read
 from new_enemy_tools.parting.sharing import shared
@@ -113,9 +113,9 @@ class Carrying:
             if not step.is_stream:
                 del self.waiting[step.found]
 
-    def left(self) -> list[int]:
-        """The lines of requests that no line answered."""
-        return [line for found, (_, line) in self.waiting.items() if found not in self.answered]
+    def left(self) -> list[tuple[int, Optional[str]]]:
+        """The lines of requests that no line answered, and their calls."""
+        return [(number, call_of(value_of(line))) for found, (line, number) in self.waiting.items() if found not in self.answered]
 
 
 def has_steps(block: Block) -> bool:
@@ -141,7 +141,7 @@ class Blocks:
         self.source, self.work, self.jobs = source, work, jobs
         # of the block that is given as it is; and the lines of requests that no line answered, when all is read
         self.joining = Joining()
-        self.left: list[int] = []
+        self.left: list[tuple[int, Optional[str]]] = []
 
     def read(self) -> Iterator[Union[Made, Block]]:
         """What the work makes of each block, in order, or the block."""

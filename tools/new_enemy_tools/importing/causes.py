@@ -40,6 +40,7 @@ NO_ONE_SNAPSHOT = "check without one snapshot"
 UNREADABLE = "check that can't be read"
 UNREADABLE_CONTENT = "content check that can't be read"
 HANGS_ON_LEFT_OUT = "check that hangs on a tuple or rule that was left out"
+CIRCLE_TAKEN_AWAY = "check by a rule that takes away what leads into a circle"
 TOO_WIDE = "check between more states than are looked at"
 STATE_NOT_KEPT = "check at a state of the days before that is not kept any more"
 STATE_TO_COME = "check at one of several states of which some come behind the day's log"
@@ -52,8 +53,8 @@ SNAPSHOT_TOO_OLD = "check at a snapshot older than where the state begins"
 NO_COMMIT_CAME = "check at a snapshot to which no commit came"
 NOT_AUDITED = (
     CONTEXTUAL, CONTEXT_OF_CONDITIONS, CONTEXT_OF_CAVEATS, CONDITIONAL, USER_WILDCARD, USER_TYPED_WILDCARD, USER_USERSET, UNKNOWN_RELATION,
-    BEFORE_BASE, OTHER_MODEL, NO_ONE_SNAPSHOT, UNREADABLE, UNREADABLE_CONTENT, HANGS_ON_LEFT_OUT, TOO_WIDE, STATE_NOT_KEPT, STATE_TO_COME,
-    ORDER_UNKNOWN, WITHOUT_TIME, NO_BEGINNING, TOKEN_NO_BEGINNING, LINE_MISSING, SNAPSHOT_TOO_OLD, NO_COMMIT_CAME)
+    BEFORE_BASE, OTHER_MODEL, NO_ONE_SNAPSHOT, UNREADABLE, UNREADABLE_CONTENT, HANGS_ON_LEFT_OUT, CIRCLE_TAKEN_AWAY, TOO_WIDE,
+    STATE_NOT_KEPT, STATE_TO_COME, ORDER_UNKNOWN, WITHOUT_TIME, NO_BEGINNING, TOKEN_NO_BEGINNING, LINE_MISSING, SNAPSHOT_TOO_OLD, NO_COMMIT_CAME)
 
 # Lost in a gap.
 NO_LINE = "no line has these numbers of the sequence"

@@ -141,7 +141,7 @@ class Core:
     def _begin(self, lines: Lines, wildcards: Wildcards, base: Optional[int], refusals: Refusals) -> Optional[Commit]:
         """Begins with the rules, and what is known of the days before; the commit of the base state, if the lines have one."""
         before, self.edges = self._before, Edges()
-        rules = wildcards.rules() + lines.rules if before is None else going_on.events_of(before) + going_on.new_rules(before, lines, refusals)
+        rules = wildcards.rules() + lines.declared() if before is None else going_on.events_of(before) + going_on.new_rules(before, lines, refusals)
         if self.goes_on is not None:
             going_on.refuse_unfit(lines.facts, before is None, self.goes_on.state is not None, self.goes_on.file, refusals)
         if before is not None:
@@ -248,12 +248,11 @@ class Core:
 
     def _kept(self) -> Iterator[bytes]:
         """The batches of the spool, without checks that hang on what was left out, and versions that are not known by all lines."""
-        refusals = self.refusals
-        if not (refusals.doubts or refusals.versions or refusals.has_lost_version or refusals.gap_since is not None):
+        refusals, doubts = self.refusals, self._doubts()
+        doubts.spread(self._stored(), refusals.denies_circles)
+        if not (doubts or refusals.versions or refusals.has_lost_version or refusals.gap_since is not None):
             yield from self.taken.items.batches()
             return
-        doubts = self._doubts()
-        doubts.spread(self._stored())
         for batch in self.taken.items.batches():
             found = _kept_in(batch)
             labels = {label for _, _, label in refusals.versions}
@@ -289,15 +288,16 @@ class Core:
         """Whether a row is perhaps not kept as it is."""
         if row[0] not in CHECKS:
             return bool(self.circular) and row[0] == "commit"
-        return doubts.has(Userset(*row[3][:3])) or row[0] == "check" and row[8] is not None
+        return doubts.cause(Userset(*row[3][:3])) is not None or row[0] == "check" and row[8] is not None
 
     def _kept_row(self, row: tuple[Any, ...], doubts: Doubts) -> Optional[tuple[Any, ...]]:
         """A row as it is kept; None of a check that is not audited."""
         if row[0] not in CHECKS:
             return self._without_circular(row) if self.circular and row[0] == "commit" else row
         entry = Entry._make(row)
-        if doubts.has(Userset(*entry.goal[:3])):
-            self.refusals.unmapped_check(entry, causes.HANGS_ON_LEFT_OUT, entry.told)
+        cause = doubts.cause(Userset(*entry.goal[:3]))
+        if cause is not None:
+            self.refusals.unmapped_check(entry, cause, entry.told)
             if entry.kind == "content" and entry.version is not None:
                 self.taken.issued.pop((entry.goal[0], entry.goal[1], entry.version), None)
             return None

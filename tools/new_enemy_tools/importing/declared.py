@@ -42,9 +42,9 @@ class Declared:
             self.head += [name] if listed else []
         else:
             self.changes.setdefault(event.revision, []).append(declaration)
-        lines = {one.name: one.line for one in listed}
+        at = {one.name: (one.file or event.file, one.line) for one in listed}
         for edge in rule_edges(declaration):
-            self.edges.add(edge, Reason(event.file, lines[edge.reader[1]], "the rule of %s#%s" % edge.reader, False))
+            self.edges.add(edge, Reason(*at[edge.reader[1]], "the rule of %s#%s" % edge.reader, False))
 
     def _refuse_sizes(self, event: Event, name: str, listed: list[RelationRule]) -> None:
         if name not in self.rules.current and len(self.rules.current) == limits.NAMESPACES:
@@ -53,7 +53,7 @@ class Declared:
             self._refuse(event, "%s has %d relations, and a trace %d at most" % (name, len(listed), limits.RELATIONS))
         for relation in listed:
             if depth(relation.rewrite) > limits.DEPTH:
-                self.refusals.refuse(event.file, relation.line, "the rule of %s#%s is deeper than %d"
+                self.refusals.refuse(relation.file or event.file, relation.line, "the rule of %s#%s is deeper than %d"
                                      % (name, relation.name, limits.DEPTH))
         if event.revision is not None and sum(map(len, self.changes.values())) >= limits.CHANGES:
             self._refuse(event, "more than %d changes of rules" % limits.CHANGES)

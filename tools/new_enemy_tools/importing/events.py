@@ -52,9 +52,12 @@ class Relationship(NamedTuple):
 
 
 class RelationRule(NamedTuple):
+    """A rule and its line; its file where that is not the one of all rules beside it."""
+
     name: str
     rewrite: dict[str, Any]
     line: int
+    file: Optional[str] = None
 
 
 class Entry(NamedTuple):
@@ -338,6 +341,7 @@ def _event(value: object, file: str, line: int, refusals: Refusals) -> Optional[
         if not refusals.is_chained:
             raise _Fault("a line `%s` stands in the files of tools/record alone, which are checked as a chain, and this is none that can be: "
                          "give all of them, as tools/record wrote them" % value["event"])
+        refusals.denies_circles |= value.get("service") == "openfga"
         return None
     stamp = stamp_of(value, file, line, refusals)
     source, source_line = value.get("file", file), value.get("line", line)

@@ -146,7 +146,7 @@ def new_rules(left: Left, lines: Lines, refusals: Refusals) -> list[Event]:
         if event.revision is None and not any(_are_in(event, known) for known in (first, current)):
             refusals.refuse(event.file, event.line, "the rules are others than at the end of the day before; "
                             "the log has to say from which revision on")
-    new = [event for event in lines.rules if event.revision is not None]
+    new = [event for event in lines.declared() if event.revision is not None]
     known = {(name, relation) for name, relations in current.items() for relation in relations}
     refuse_new_tuplesets(new, known, {pair for _, namespaces in left.rules for pair in tuplesets_in(
         {name: [rewrite for _, rewrite in relations] for name, relations in namespaces.items()})}, refusals)

@@ -26,6 +26,8 @@ BLANK = b" \t\r"
 # Some programs put a byte order mark before a text.
 MARK = b"\xef\xbb\xbf"
 STRANGE = re.compile(rb'"[ \t\r]+:|[0-9]{18}|[0-9][.eE]|-0')
+# OpenFGA's log has each answer of a call that streams them under this key.
+STREAMED = "raw_response"
 HALF = "half of a pair of code units stands alone"
 
 
@@ -66,8 +68,11 @@ def _no_constant(text: str) -> None:
 def _once(pairs: list[tuple[str, object]]) -> dict[str, Any]:
     made = dict(pairs)
     if len(made) != len(pairs):
-        keys = [key for key, _ in pairs]
-        raise ValueError("the key %r stands twice" % next(key for key in keys if keys.count(key) > 1))
+        keys = [key for key, _ in pairs if key != STREAMED]
+        for key in keys:
+            if keys.count(key) > 1:
+                raise ValueError("the key %r stands twice" % key)
+        made[STREAMED] = [value for key, value in pairs if key == STREAMED]
     return made
 
 

@@ -136,7 +136,7 @@ class Models:
                 for one in relations:
                     name = self.name(model, one.name)
                     if name not in known:
-                        listed.append(RelationRule(name, _renamed(one.rewrite, lambda read: self.name(model, read)), one.line))
+                        listed.append(RelationRule(name, _renamed(one.rewrite, lambda read: self.name(model, read)), one.line, event.file))
         return made
 
     def takes(self, key: Key) -> list[tuple[str, Optional[str]]]:

@@ -248,10 +248,12 @@ class OpenFgaLog(Log):
     NO_LINE = "neither changes of ReadChanges nor a check with its `request`"
     DECIDES = ("allowed", "result", "objects", "users")
     OTHERS = {"Write": ("request.writes", "request.deletes"), "Expand": ("response.tree",), "Read": ("response.tuples",),
-              "ReadChanges": (), "ReadAuthorizationModel": ("response.authorization_model",),
+              "ReadAuthorizationModel": ("response.authorization_model",),
               "ReadAuthorizationModels": ("response.authorization_models",), "ReadAssertions": ("response.assertions",),
               "WriteAssertions": ("request.assertions",), "GetStore": (), "ListStores": ("response.stores",), "CreateStore": (),
-              "UpdateStore": (), "DeleteStore": (), "Health": ()}
+              "UpdateStore": (), "DeleteStore": (), "Health": (),
+              # one that shows nothing, as JSON of protobuf may leave an empty list out
+              "ReadChanges": ("response.continuation_token",)}
     DECISIONS = frozenset(("Check", "BatchCheck", "ListObjects", "StreamedListObjects", "ListUsers"))
     WRITES = ("Write",)
     CALL_KNOWN = "other call (Write)"
@@ -263,7 +265,8 @@ class OpenFgaLog(Log):
     RULES = (b'"type_definitions"', b'"typeDefinitions"', b'"authorization_model"', b'"authorizationModel"', b'"authorization_models"',
              b'"authorizationModels"')
     CHECK, CONTENT_CHECK = _forms("request", "response", {"time": field(TIME, "time")})
-    LOGGED = (_forms("raw_request", "raw_response", {"timestamp": field(STAMP, "time", "epoch", is_steady=False)},
+    LOGGED = (_forms("raw_request", "raw_response", {
+        "timestamp": field(STAMP, "time", "epoch", is_steady=False), printed.MODEL: field(b'"(%s*)"' % TEXT, "taken")},
                      "level", "msg", "grpc_service", "grpc_method", "grpc_code", read=KEYS | printed.READ),)
     WRITE = form({"%s%s" % (page, path): one for page in ("", "changes.*.") for path, one in {
         **_goal("tuple_key.", REST + b"+", RELATION), "tuple_key.condition": NULL, "timestamp": field(b'"(%s+)"' % TEXT, "timestamp")}.items()}
@@ -272,6 +275,7 @@ class OpenFgaLog(Log):
 
     def __init__(self, rules: ServiceRules, base_at: Optional[Moment], refusals: Refusals):
         super().__init__(rules._replace(takes={name: set(users) for name, users in rules.takes.items()}), base_at, refusals)
+        refusals.denies_circles = True
         # the models of the log, each once; and what was refused of those that were read and never in force, which matters where they are used
         self.models = [rules, *rules.others]
         self.apart: dict[int, Refusals] = {}
@@ -414,7 +418,7 @@ class OpenFgaLog(Log):
         return None if revision is None else When(revision, shown, revision)
 
     def look_of(self, said: Said) -> Optional[Look]:
-        version, model = said.get("version"), said.get("model")
+        version, model = said.get("version"), said.get("model") or said.get("taken")
         try:
             snapshot, token = _moment(said["place"], said["moment"]), _moment(said.get("token_place"), said.get("token"))
         except Bad:

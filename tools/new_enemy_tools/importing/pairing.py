@@ -35,7 +35,9 @@ class Pairing:
             if step is None:
                 yield number, line
             elif step.kind == 0:
-                self._read_asked(step.found)
+                if step.found in self.asked or step.found in self.joining.waiting:
+                    # Several calls with one id are under way at once.
+                    raise Otherwise
                 self.asked[step.found] = line, number, False
             elif step.kind == 1 and not step.is_stream and step.found in self.asked:
                 self.told = step.found, line

@@ -5,6 +5,7 @@ their public sources.
 """
 import re
 from datetime import datetime, timezone
+from itertools import chain
 from typing import Any, Iterable, Iterator, NamedTuple, Optional
 
 from new_enemy_tools.importing.reading import Bad, get
@@ -16,7 +17,10 @@ FINISHED = "finished call"
 # A tap of Envoy, and the events in which applications say what they asked.
 TAP, SAID = "http_buffered_trace", ("own", "asked", "lost", "over")
 # The keys of a line of OpenFGA's log, and those of an event, that are read.
-READ = frozenset(("specversion", "data", "type", "raw_request", "raw_response", "grpc_method", "grpc_service", "grpc_code", "timestamp"))
+READ = frozenset(("specversion", "data", "type", "raw_request", "raw_response", "grpc_method", "grpc_service", "grpc_code", "timestamp",
+                  "authorization_model_id"))
+# Of a request that names none the server tells which model it took.
+MODEL = "authorization_model_id"
 ZONE = re.compile(r"([+-][0-9]{2})([0-9]{2})$")
 REQUEST_ID = ("requestID", "requestId", "request_id")
 OWN = "line of the service's own log"
@@ -44,7 +48,12 @@ def unwrapped(value: Any, keys: Iterable[str]) -> Any:
     if _is_health(value.get("grpc_service")):
         return {"method": HEALTH}
     code, given = value.get("grpc_code"), {key: value[key] for key in keys if key in value}
-    found = {"request": value.get("raw_request"), "response": value.get("raw_response"), "error": value.get("error"),
+    request, model = value.get("raw_request"), value.get(MODEL)
+    if isinstance(request, dict) and model and not get(request, MODEL):
+        request = {**request, MODEL: model}
+    # One that streams its answers has none where it found nothing.
+    nothing: Optional[list[Any]] = [] if value.get("grpc_method") == "StreamedListObjects" else None
+    found = {"request": request, "response": value.get("raw_response", nothing), "error": value.get("error"),
              "method": value.get("grpc_method"), "status": {"code": code} if code else None, "time": time_of(value.get("timestamp"))}
     return _filled({**found, **given})
 
@@ -173,12 +182,28 @@ def steps_of(value: Any) -> list[Step]:
     return [] if found is None and kind < 2 else [Step(kind, found or "", kind == 1 and is_stream(value))]
 
 
+class Waiting(NamedTuple):
+    """A request, its line, what a recorder says there, and the call that it is of."""
+
+    request: Any
+    line: int
+    added: dict[str, Any]
+    call: Optional[str]
+
+
+def call_of(value: Any) -> Optional[str]:
+    """The call that a line of SpiceDB's log is of."""
+    call = get(value, "grpc.method")
+    return call if isinstance(call, str) else None
+
+
 class Joining:
     """Requests that wait for their responses, by their ids: as many as are under way at once."""
 
     def __init__(self) -> None:
-        # the requests, each with its line and with what a recorder says there
-        self.waiting: dict[str, tuple[Any, int, dict[str, Any]]] = {}
+        self.waiting: dict[str, Waiting] = {}
+        # those whose id others had meanwhile, which clients may choose: of these it is not known which response is whose
+        self.several: dict[str, list[Waiting]] = {}
         self.answered: dict[str, None] = {}
         # what the lines did, where that is noted
         self.steps: Optional[list[Step]] = None
@@ -203,9 +228,12 @@ class Joining:
         if REQUEST in value:
             self.wait(found, value, line)
             return None
+        if found in self.several:
+            del self.several[found][:1]
+            raise Bad("several calls with the `requestID` %s were under way at once, and it is not known which this response is of" % found[:80])
         if found not in self.waiting:
             raise Bad("the log has no request of the response with the `requestID` %s" % found[:80])
-        request, _, added = self.waiting[found]
+        request, _, added, _ = self.waiting[found]
         self.answer(found, is_stream(value))
         given = {key: value[key] for key in keys if key in value and key not in ("time", "error", "method")}
         given |= both(added, added_in(given), "the lines of the request and of the response")
@@ -226,7 +254,13 @@ class Joining:
 
     def wait(self, found: str, value: dict[str, Any], line: int) -> None:
         """Keeps the request of a line."""
-        self.waiting[found] = plain_of(value[REQUEST]), line, added_in(value)
+        asked = Waiting(plain_of(value[REQUEST]), line, added_in(value), call_of(value))
+        if found in self.waiting:
+            self.several[found] = [self.waiting.pop(found)]
+        if found in self.several:
+            self.several[found].append(asked)
+        else:
+            self.waiting[found] = asked
 
     def go_on(self, value: Any, line: int) -> None:
         """Goes on behind a line whose call is not asked for."""
@@ -236,14 +270,16 @@ class Joining:
         except Bad:
             pass
 
-    def left(self) -> list[int]:
-        """The lines of requests that no line answered."""
-        return [line for found, (_, line, _) in self.waiting.items() if found not in self.answered]
+    def left(self) -> list[tuple[int, Optional[str]]]:
+        """The lines of requests that no line answered, and their calls."""
+        waiting = [asked for found, asked in self.waiting.items() if found not in self.answered]
+        return [(asked.line, asked.call) for asked in chain(waiting, *self.several.values())]
 
     def _ended(self, found: Optional[str], code: object, told: dict[str, Any]) -> Optional[dict[str, Any]]:
         """What the end of a call tells: that it failed, or, of one that no line told, that there was such a call."""
-        request, *_ = self.waiting.pop(found or "", (None, 0, {}))
-        is_answered = found in self.answered
+        asked = self.waiting.pop(found or "", None)
+        request = asked and asked.request
+        is_answered = found in self.answered or found in self.several
         if found is not None:
             self.answered.pop(found, None)
         if isinstance(code, str) and code != "OK":

@@ -57,6 +57,8 @@ class Refusals:
         # the stores that calls name, each with the first line that does
         self.stores: dict[str, tuple[str, int]] = {}
         self.doubts: list[tuple[str, Optional[str], str]] = []
+        # whether the service denies what takes away something that leads into a circle
+        self.denies_circles = False
         self.versions: set[tuple[str, str, str]] = set()
         # the numbers of a sequencer that lines have which were read in full
         self.numbers = Numbers()
@@ -86,6 +88,7 @@ class Refusals:
         for store, place in other.stores.items():
             self.stores.setdefault(store, place)
         self.doubts += other.doubts
+        self.denies_circles |= other.denies_circles
         self.versions |= other.versions
 
     def refuse(self, file: str, line: int, text: str) -> None:

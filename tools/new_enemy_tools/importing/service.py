@@ -246,11 +246,22 @@ class Log:
             yield lines.facts.count
         self._end(path, blocks.left)
 
-    def _end(self, path: str, left: list[int]) -> None:
+    def _end(self, path: str, left: list[tuple[int, Optional[str]]]) -> None:
         """A call whose response does not stand in the file of its request was not told."""
-        for line in left:
-            self.refusals.unread_check(path, line, causes.UNREADABLE, "the log has no response of this request")
+        for line, call in left:
+            self._half(path, line, call, "the log has no response of this request")
         self.joining = printed.Joining()
+
+    def _half(self, path: str, line: int, call: Optional[str], told: str) -> None:
+        """A line without what belongs to it. Of a call that wrote it is then not known what."""
+        if call in self.WRITES:
+            self.refusals.unseen.setdefault(call, (path, line))
+        if call == "WriteSchema":
+            self.refusals.refuse(path, line, told)
+        elif call in self.OTHERS:
+            self.refusals.pass_over("other call (%s)" % call)
+        else:
+            self.refusals.unread_check(path, line, causes.UNREADABLE, told)
 
     def _block(self, source: located.Source, reader: Reader, given: Carried) -> Union[tuple[Read, Refusals], Carried, None]:
         """What a process makes of a block; the block itself where it may have new rules, and None where lines are joined otherwise than they seem."""
@@ -282,7 +293,7 @@ class Log:
             try:
                 value = self._told(given, line)
             except Bad as fault:
-                self.refusals.unread_check(path, line, causes.UNREADABLE, str(fault))
+                self._half(path, line, printed.call_of(given), str(fault))
                 continue
             if value is None and given is not None:
                 continue
@@ -379,6 +390,8 @@ class Log:
             newest = newest_of(value, Bad)
             if newest and content is None:
                 raise Bad("`newest` is said of a content check")
+            if content is not None and any(value.get(key) is not None for key in self.CONTENT):
+                raise Bad("what a content check saves stands in `content`, and this line has a `version` or a `token` beside it: give each a line")
             if content is not None and len(answers) > 1:
                 raise Bad("a content check asks one question, and this line %d" % len(answers))
         except Bad as fault:

@@ -27,6 +27,7 @@ READ = re.compile(RELATIONSHIP.pattern.replace("#(?P<relation>", " +(?P<relation
                   .replace("(?P<traits>", " *(?P<traits>"))
 WORD = rb"[a-z0-9_]"
 # By names and numbers.
+CONSISTENCY = ("fullyConsistent", "minimizeLatency", "atLeastAsFresh", "atExactSnapshot")
 OPERATIONS = {"OPERATION_CREATE": True, 1: True, "OPERATION_TOUCH": True, 2: True, "OPERATION_DELETE": False, 3: False}
 
 
@@ -77,6 +78,14 @@ def _logged_checks() -> tuple[Form, Form]:
     return check, content
 
 
+def _asks_for_newest(consistency: object) -> bool:
+    """Whether the newest state is asked for; raises Bad where it is not known what is."""
+    named = [key for key in CONSISTENCY if get(consistency, key) is not None]
+    if consistency not in (None, {}) and not named or get(consistency, CONSISTENCY[0]) not in (None, True):
+        raise Bad("unknown consistency %s" % str(consistency)[:80])
+    return named[:1] == [CONSISTENCY[0]]
+
+
 def key_of(revision: Revision) -> Optional[int]:
     """What two tokens of one write have in common."""
     return revision.snapshot.own if revision.snapshot else revision.number
@@ -97,7 +106,8 @@ class SpiceDbLog(Log):
     WRITES = ("WriteRelationships", "DeleteRelationships", "ImportBulkRelationships", "BulkImportRelationships")
     CALL_KNOWN = "other call (WriteRelationships)"
     PARTIAL = ("optionalObjectTypes", "optionalRelationshipFilters")
-    GIVE_CHANGES = "give the watch stream, which has each change with its revision"
+    GIVE_CHANGES = ("give the watch stream, which has each change with its revision, and put files together that were cut between a request "
+                    "and its response")
     DECIDES = ("permissionship", "pairs", "resourceObjectId", "subject", "subjectObjectId")
     CHECK, CONTENT_CHECK = _forms("")
     LOGGED = _forms("data.", "specversion", "type", read=printed.READ | {"time"}), _logged_checks()
@@ -155,7 +165,7 @@ class SpiceDbLog(Log):
             self.refusals.refuse(number.file, number.line, "its revision %s is a number, and that of %s:%d a snapshot of PostgreSQL"
                                  % (number.shown, snapshot.file, snapshot.line))
             return Lines()
-        return visibility.placed(list(lines), base, skew, self.refusals)
+        return self.with_calls(visibility.placed(list(lines), base, skew, self.refusals), _key_of_row)
 
     def _refuse_deleted(self, lines: Lines) -> None:
         """A deletion is in the log by its change alone. Where the log has none at all, that was refused."""
@@ -269,7 +279,7 @@ class SpiceDbLog(Log):
         revision = revision_at(get(value, "response"))
         token = self._token(get(value, "request"), content)
         version = text_or_none(get(value if content is None else content, "version"), "version")
-        asks = content is None and get(get(get(value, "request"), "consistency"), "fullyConsistent") is True
+        asks = content is None and _asks_for_newest(get(get(value, "request"), "consistency"))
         return self._looked(revision, token, version, asks)
 
     @staticmethod

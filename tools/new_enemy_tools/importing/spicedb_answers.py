@@ -60,7 +60,10 @@ def responses_of(response: object) -> list[Any]:
 
 def revision_at(response: object) -> Revision:
     """The revision that a call was evaluated at."""
-    first = response if get(response, "checkedAt") is not None else responses_of(response)[0]
+    answers = responses_of(response)
+    first = response if get(response, "checkedAt") is not None else answers[0]
+    if len({str(get(get(one, "lookedUpAt"), "token")) for one in answers if get(one, "lookedUpAt") is not None}) > 1:
+        raise Bad("the answers of this lookup have several `lookedUpAt`: give each state a line, with the request")
     looked_up = get(first, "lookedUpAt")
     if looked_up is not None:
         return revision_in(looked_up, "`lookedUpAt` of the response")

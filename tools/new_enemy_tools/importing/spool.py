@@ -225,6 +225,10 @@ class Lines:
         else:
             self.spool.add(row_of(line))
 
+    def declared(self) -> list[Event]:
+        """The rules by their revisions, behind those from the beginning, in whatever order they were read."""
+        return sorted(self.rules, key=lambda event: -1 if event.revision is None else event.revision)
+
     def add_row(self, row: Row) -> None:
         """Adds a check or a write as the row that it is."""
         self.facts.note(Entry._make(row) if row[0] in CHECKS else WriteRow._make(row))

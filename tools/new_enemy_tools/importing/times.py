@@ -27,8 +27,9 @@ def _of_text(text: str) -> Optional[int]:
 @lru_cache(1 << 10)
 def _of_second(text: str) -> Optional[int]:
     try:
-        return (datetime.fromisoformat(text) - EPOCH) // SECOND
-    except ValueError:
+        # One whose year in UTC is none overflows.
+        return (datetime.fromisoformat(text).astimezone(timezone.utc) - EPOCH) // SECOND
+    except (ValueError, OverflowError):
         return None
 
 

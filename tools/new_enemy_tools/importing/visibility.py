@@ -131,8 +131,11 @@ def placed(lines: list[Line], base: Optional[Snapshot], skew: Optional[int], ref
     numbers = {transaction: number for number, transaction in enumerate(history.order(), 1)}
     for event in writes:
         event.revision = numbers[_own(event)]
+    lines = _in_order(lines, writes)
+    for event in writes:
+        event.asked = None
     made = Lines()
-    for line in _in_order(lines, writes):
+    for line in lines:
         found = _place(line, asked[id(line)], history, base, refusals) if isinstance(line, Entry) else line
         if found is not None:
             made.add(found)

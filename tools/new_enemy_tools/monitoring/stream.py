@@ -115,6 +115,8 @@ class Stream(Core):
         lines.facts.is_chained = True
         for piece in Events(chunk.file, self.refusals).pieces(Block(chunk.first, chunk.data), self.refusals):
             lines.add_piece(piece)
+        # To look for circles takes a look at all usersets that are stored, and would be done for each few lines.
+        self.refusals.denies_circles = False
         return lines
 
     def _refuse(self) -> None:

@@ -8,6 +8,7 @@ from urllib.parse import SplitResult, urlsplit
 from new_enemy_tools.recording.secured import context_of
 
 TIMEOUT = 30.0
+READ = 64 << 10
 
 
 class FeedFault(Exception):
@@ -59,21 +60,20 @@ class Asker:
         _refuse_failed(path, answer.status, data)
         return data
 
-    def stream(self, path: str, body: Any, timeout: float) -> Iterator[Any]:
-        """The JSON values of an answer that comes line by line; raises FeedFault."""
+    def stream(self, path: str, body: Any, timeout: float, has_end: bool) -> Iterator[Any]:
+        """The JSON values of an answer that comes line by line; raises FeedFault. One that has no end of its own may rest for long."""
         connection = self._connected(timeout)
         try:
             connection.request("POST", self.url.path.rstrip("/") + path, json.dumps(body), self.headers)
             answer = connection.getresponse()
             if answer.status >= 400:
                 _refuse_failed(path, answer.status, answer.read())
-            while raw := answer.readline():
-                if raw.strip():
-                    yield json.loads(raw)
-        except socket.timeout:
-            # Nothing came for long, which is no fault.
-            return
+            yield from map(json.loads, filter(bytes.strip, _lines(answer)))
+            if has_end and not answer.chunked and answer.length != 0:
+                raise OSError("it may have been cut")
         except (OSError, http.client.HTTPException) as fault:
+            if not has_end and isinstance(fault, (socket.timeout, http.client.IncompleteRead)):
+                return
             raise FeedFault("%s ends: %s" % (path, str(fault) or type(fault).__name__)) from None
         finally:
             connection.close()
@@ -82,6 +82,15 @@ class Asker:
         if self.connection is not None:
             self.connection.close()
             self.connection = None
+
+
+def _lines(answer: http.client.HTTPResponse) -> Iterator[bytes]:
+    """The lines of an answer, as they come. `readline` takes one that was cut between two chunks for whole."""
+    data = b""
+    while piece := answer.read1(READ):
+        *lines, data = (data + piece).split(b"\n")
+        yield from lines
+    yield data
 
 
 def _refuse_failed(path: str, status: int, data: bytes) -> None:

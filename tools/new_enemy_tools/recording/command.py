@@ -37,6 +37,8 @@ CLOSING = 60.0
 AGAIN = 2.0
 # The proxy itself has a few files open; and more than so many are not asked for.
 FILES, MANY = 40, 1 << 20
+# No word is a time of so many seconds.
+MANY_SECONDS = 10 ** 9
 CALLS = {"openfga": openfga.call_of, "spicedb": spicedb.call_of}
 
 
@@ -298,8 +300,9 @@ def main(arguments: list[str]) -> int:
         parser.error("give either --listen or --changes-only")
     if given.changes_only and (given.tls_cert or given.share_port):
         parser.error("--tls-cert and --share-port go with --listen")
-    if min(given.hold, given.poll, given.stale_by, given.file_seconds, given.horizon, given.overlap) < 0 or given.file_bytes < 1:
-        parser.error("a number is below 0")
+    seconds = given.hold, given.poll, given.stale_by, given.file_seconds, given.horizon, given.overlap
+    if not all(0 <= one < MANY_SECONDS for one in seconds) or given.file_bytes < 1:
+        parser.error("a number is below 0, or a time is none below %d seconds" % MANY_SECONDS)
     if given.hold < 2 * given.horizon:
         parser.error("--hold has to be twice as long as --horizon, since each check waits for that")
     url = url_of(parser, given.openfga or given.spicedb)

@@ -19,6 +19,11 @@ from new_enemy_tools.recording.sequencer import Commit, Ready, Sequencer
 FOREVER = 1 << 63
 # Gaps behind the first one are told together, so often.
 TOGETHER = 10 ** 9
+# So many causes are told apart, and so much of one is told: what stands in some comes from a client.
+CAUSES, LONGEST = 1000, 200
+# So many bytes of lines may wait for the changes.
+ROOM = 64 << 20
+FULL = "too many decisions wait for the changes"
 # What a gap calls the requests of a call.
 KINDS = {"check": "checks", "batch": "batches of checks", "list": "lists", "stream": "lists"}
 
@@ -227,7 +232,10 @@ class Core:
             self.lose(reason, one.since, one.data.count(b"\n"))
 
     def _add_gap(self, reason: str, start: int, end: int, count: int) -> None:
-        self.gaps.add(reason, start, end, count)
+        if reason not in self.lost and len(self.lost) >= CAUSES:
+            reason = "other causes than %d" % CAUSES
+        # The clock of the wall may have been set back meanwhile.
+        self.gaps.add(reason, min(start, end), max(start, end), count)
         self.lost[reason] += count
 
     def tried(self, message: Ended, work: Callable[[], None]) -> None:
@@ -260,6 +268,8 @@ class Core:
         self._let_go(message.number)
         refuse_headers(message, answers)
         made = b"".join(_entry(message, answer, values) for answer in answers)
+        if self.sequencer.size > ROOM:
+            raise Bad(FULL)
         if made:
             self.sequencer.put_entry(place, message.at, made, message.number)
 
@@ -340,7 +350,7 @@ def _moved(place: Place, commit: Commit) -> Place:
 
 
 def _reason(fault: Exception) -> str:
-    return str(fault) if isinstance(fault, Bad) else "a line can't be understood (%s)" % type(fault).__name__
+    return str(fault)[:LONGEST] if isinstance(fault, Bad) else "a line can't be understood (%s)" % type(fault).__name__
 
 
 def place_line(place: Place) -> bytes:

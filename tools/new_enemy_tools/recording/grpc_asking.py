@@ -60,9 +60,9 @@ class OpenFgaOverGrpc(GrpcAsker):
         body = {"store_id": store, "page_size": {"value": size}, "continuation_token": token}
         return next(self.stream(OPENFGA + "ReadChanges", body), {})
 
-    def model(self, store: str) -> tuple[object, bytes]:
+    def model(self, store: str, size: int) -> tuple[object, bytes]:
         """What tells it from another is its id: the service may write one model in several ways."""
-        data = next(self.raw(self.MODELS, {"store_id": store, "page_size": {"value": 1}}), b"")
+        data = next(self.raw(self.MODELS, {"store_id": store, "page_size": {"value": size}}), b"")
         return self.messages.read("IdsResponse", data), data
 
     def models(self, data: bytes) -> list[Any]:

@@ -24,7 +24,7 @@ OPTIONS = [("grpc.max_receive_message_length", -1), ("grpc.max_send_message_leng
 LAST = 3.0
 LABELS = ("x-content-save", "x-content-version", "x-content-token")
 # What gRPC itself says of a connection, and says anew on the next.
-OWN = ("grpc-", "user-agent", "content-type", "te", "accept-encoding")
+OWN = frozenset(("user-agent", "content-type", "te", "accept-encoding"))
 
 
 def channel_of(library: Any, url: SplitResult, ca: Optional[str]) -> Any:
@@ -124,7 +124,7 @@ class GrpcRelay:
         return self.under_way > 0
 
     async def pass_on(self, method: str, requests: AsyncIterator[bytes], context: Any) -> None:
-        metadata = [(key, value) for key, value in context.invocation_metadata() or () if not key.startswith(OWN)]
+        metadata = [(key, value) for key, value in context.invocation_metadata() or () if key not in OWN and not key.startswith("grpc-")]
         call = CALLS.get(method)
         kept = None if call is None else Kept(method, call, metadata)
         self.under_way += 1

@@ -3,6 +3,7 @@
 It is strict: what a service might read in another way is no message here, so that no answer is taken for that of another request.
 """
 import re
+from posixpath import normpath
 from typing import Callable, Optional
 from urllib.parse import unquote
 
@@ -70,7 +71,8 @@ class Head:
         if "content-length" in self.twice or "transfer-encoding" in self.twice or given is not None and coding is not None:
             raise Strange("a message that says twice how long it is")
         if coding is not None:
-            if coding.lower() != b"chunked":
+            # A reader of HTTP/1.0 may pass over it.
+            if coding.lower() != b"chunked" or b"HTTP/1.0" in self.first:
                 raise Strange("a transfer-encoding that is not read along")
             return -1
         if given is None:
@@ -81,11 +83,12 @@ class Head:
 
 
 def path_of(target: str) -> str:
-    """The path that a request names, as services read it: decoded, without a query, a fragment or the name of a host."""
+    """The path that a request names, as services or what stands before them may read it: decoded, without a query, a fragment, the name of
+    a host, or steps that lead back."""
     path = target.split("#")[0].split("?")[0]
     if not path.startswith("/"):
         path = "/" + path.partition("://")[2].partition("/")[2]
-    return unquote(path)
+    return normpath(unquote(path))
 
 
 class Messages:

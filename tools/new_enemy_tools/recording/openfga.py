@@ -9,7 +9,6 @@ import re
 from bisect import bisect_right
 from collections import deque
 from functools import partial
-from itertools import islice
 from typing import Any, Iterator, NamedTuple, Optional, Union
 
 from new_enemy_tools.importing.between import STATES
@@ -22,11 +21,12 @@ from new_enemy_tools.importing.service import Answer, ServiceRules
 from new_enemy_tools.importing.times import nanoseconds
 from new_enemy_tools.recording.bearing import Bearing
 from new_enemy_tools.recording.bodies import UNHEARD, request_of, response_of
-from new_enemy_tools.recording.core import Asked, Begun, Core
+from new_enemy_tools.recording.core import FULL, Asked, Begun, Core
 from new_enemy_tools.recording.grpc_calls import GRPC
-from new_enemy_tools.recording.lines import ODD, TUPLES, Came, base_lines, line, time_text, unmapped_line, write_line
+from new_enemy_tools.recording.lines import ODD, Came, line, time_text, unmapped_line, write_line
 from new_enemy_tools.recording.log_files import Left, Place
 from new_enemy_tools.recording.messages import Ended, Started
+from new_enemy_tools.recording.openfga_messages import MESSAGES
 from new_enemy_tools.recording.overlap import Change, Read
 from new_enemy_tools.recording.places import Places, Row, Window, by_turns
 from new_enemy_tools.recording.ruled import Takes, Unread, ruled
@@ -36,6 +36,9 @@ from new_enemy_tools.recording.stored import Stored
 PATH = re.compile(r"/stores/([^/]+)/(check|batch-check|list-objects|streamed-list-objects|list-users|write)")
 CALLS = {"check": "check", "batch-check": "batch", "list-objects": "list", "list-users": "list", "streamed-list-objects": "stream",
          "write": "write"}
+REQUESTS = {call: "".join(word.title() for word in call.split("-")) + "Request" for call in CALLS}
+# So many decisions may wait for the changes.
+WAITING = 200_000
 # Of so many changes the times are remembered.
 TIMES = 100_000
 # Of so many changes it is remembered where each tuple's stand, for writes whose answers come later.
@@ -50,6 +53,7 @@ OPEN = 2 * 10 ** 9
 UNSHOWN = "a write was answered that the changes did not show within %g seconds"
 UNORDERED = "changes that came at once, in an order that is not known"
 CONSISTENT = "a check with an unknown consistency"
+OTHER_STORE = "a check of another store; the one that is recorded was the only one when the recorder began"
 Rules = tuple[Optional[ServiceRules], Refusals]
 Key = tuple[Relationship, bool]
 
@@ -57,6 +61,11 @@ Key = tuple[Relationship, bool]
 def call_of(method: str, path: str) -> Optional[str]:
     found = PATH.search(path) if method == "POST" else None
     return CALLS[found[2]] if found and found.end() == len(path) else None
+
+
+def refuse_unknown(path: str, request: object) -> None:
+    """Raises Bad where a request over HTTP has a field that its call does not have, as far as that is known."""
+    MESSAGES.refuse_unknown(REQUESTS[path.rpartition("/")[2]], request)
 
 
 class Base(NamedTuple):
@@ -75,13 +84,15 @@ class Base(NamedTuple):
 
 
 class Changes(NamedTuple):
-    """What a reading gave, from and to when; whether it was of one page; and rules where they are others than before, or can't be read."""
+    """What a reading gave, from and to when; whether it was of one page; and rules where they are others than before, or can't be read.
+    `skips` says whether others may have come before those, which were not read."""
 
     began: int
     received: int
     is_single: bool
     read: Read
     rules: Optional[Rules]
+    skips: bool = False
 
 
 class Waiting(NamedTuple):
@@ -132,6 +143,8 @@ class OpenFga:
     def __init__(self, store: Optional[str], stale: int, hold: int, horizon: int = 0, tells: bool = False):
         """`tells` says whether the log has from when to when each change may have come, for checks that do not pass here."""
         self.store, self.stale, self.hold, self.horizon, self.tells = store, stale, hold, horizon, tells
+        # whether somebody said which store is recorded, so that checks of others are no loss
+        self.is_named = bool(store)
         # until when all changes are in the log, as it was told last
         self.told = 0
         self.takes, self.bearing = Takes(), Bearing()
@@ -143,6 +156,8 @@ class OpenFga:
         # of the last reading when it began, how many commits it gave, and whether it was of one page
         self.began, self.last = 0, (0, False)
         self.waits: list[Waiting] = []
+        # how many decisions those have, or had when that was counted last
+        self.weight = 0
         # writes under way by their numbers, with when they were asked, and those that have an answer
         self.open: dict[int, int] = {}
         self.made: deque[Made] = deque()
@@ -208,14 +223,7 @@ class OpenFga:
     def _base_lines(self, rules: bytes, stored: Stored) -> Iterator[bytes]:
         """The rules and the base state, which may be long."""
         yield line("feed", store=self.store, changes=stored.count) + rules + b"".join(map(_unread_line, stored.odd))
-        given = stored.items()
-        some = list(islice(given, TUPLES))
-        while True:
-            kept, unmapped = self.takes.sorted_out(some)
-            yield unmapped + b"".join(base_lines(0, kept))
-            some = list(islice(given, TUPLES))
-            if not some:
-                return
+        yield from self.takes.base_lines(0, stored.items())
 
     def _take_names(self, rules: ServiceRules) -> None:
         self.takes.add(rules)
@@ -250,7 +258,7 @@ class OpenFga:
             self._taint(change.given, Taint(ODD, message.received))
         if message.rules is not None:
             self._take_rules(*message.rules, message, core)
-            if message.read.changes:
+            if message.read.changes or message.skips:
                 # Which of them came first is not known.
                 self.muddled.append((before, self.places.revision))
         self.began, began_before = message.began, self.began
@@ -469,6 +477,7 @@ class OpenFga:
         found = [one.message for one in self.waits if one.message.at < before]
         if found:
             self.waits = [one for one in self.waits if one.message.at >= before]
+        self._weigh()
         return found
 
     def end(self, message: Ended, asked: Asked, core: Core) -> None:
@@ -478,6 +487,8 @@ class OpenFga:
             self.open.pop(message.number, None)
             return
         request = self._request(message)
+        if request is None and not self.is_named:
+            raise Bad(OTHER_STORE)
         answers = [] if request is None else list(answers_of(request, response_of(message), UNHEARD))
         if not answers:
             core.forget(message.number)
@@ -485,15 +496,23 @@ class OpenFga:
         newest = message.save is not None or asks_for_newest(request)
         since = asked.clock if newest else self._stale(asked.clock)
         token = None if message.token is None or newest and message.save is None else self._place_of(message.token)
-        self.waits.append(Waiting(message, answers, since, newest, token, get(request, "authorization_model_id") or None))
+        self.weight += len(answers)
+        if self.weight > WAITING:
+            raise Bad(FULL)
+        # Of what waits the bodies are not needed any more.
+        kept = message._replace(request=None, response=None)
+        self.waits.append(Waiting(kept, answers, since, newest, token, get(request, "authorization_model_id") or None))
 
     def _request(self, message: Ended) -> Any:
         """What a call asks of the store that is recorded, None where it is of another; over gRPC the request names it."""
-        is_over_grpc = message.encoding == GRPC
-        if self.store is not None and not is_over_grpc and "/stores/%s/" % self.store not in message.path:
+        if message.encoding == GRPC:
+            request = request_of(message)
+            return request if self.store in (None, get(request, "store_id")) else None
+        if self.store is not None and "/stores/%s/" % self.store not in message.path:
             return None
         request = request_of(message)
-        return None if is_over_grpc and self.store not in (None, get(request, "store_id")) else request
+        refuse_unknown(message.path, request)
+        return request
 
     def _stale(self, clock: int) -> int:
         """When that was known which a check has seen at least that does not ask for the newest state."""
@@ -530,6 +549,10 @@ class OpenFga:
                 self.waits.append(one)
             else:
                 core.tried(one.message, partial(self._put, one, core))
+        self._weigh()
+
+    def _weigh(self) -> None:
+        self.weight = sum(len(one.answers) for one in self.waits)
 
     def _put(self, one: Waiting, core: Core) -> None:
         window = self.places.window(one.since, one.message.clock)

@@ -32,8 +32,8 @@ class Source(Protocol):
     def changes(self, store: str, size: int, token: Optional[str]) -> Any:
         """A page of ReadChanges behind a token."""
 
-    def model(self, store: str) -> tuple[object, bytes]:
-        """An answer with the latest model, and what tells that from others."""
+    def model(self, store: str, size: int) -> tuple[object, bytes]:
+        """An answer with the latest models, and what tells it from others."""
 
     def models(self, data: bytes) -> list[Any]:
         """The models of an answer."""
@@ -50,8 +50,8 @@ class OpenFgaOverHttp(Asker):
         behind = "&continuation_token=" + quote(token, safe="") if token else ""
         return self.ask("GET", "/stores/%s/changes?page_size=%d%s" % (quote(store), size, behind))
 
-    def model(self, store: str) -> tuple[object, bytes]:
-        data = self.raw("GET", "/stores/%s/authorization-models?page_size=1" % quote(store))
+    def model(self, store: str, size: int) -> tuple[object, bytes]:
+        data = self.raw("GET", "/stores/%s/authorization-models?page_size=%d" % (quote(store), size))
         return data, data
 
     def models(self, data: bytes) -> list[Any]:
@@ -64,8 +64,9 @@ class OpenFgaFeed:
         self.source = source
         self.store = settings.store or ""
         self.overlap: Optional[Overlap] = None
-        # what tells the latest model from others
+        # what tells the latest model from others, and its id
         self.model_mark: object = None
+        self.model_id: object = None
 
     def run(self, left: Optional[Left], put: Callable[[Any], None]) -> None:
         if self.overlap is None:
@@ -93,7 +94,7 @@ class OpenFgaFeed:
         else:
             changes, ends = self._changes(overlap.cursor)
             end = ends[-1][1] if ends else overlap.cursor
-        mark, rules = self._model()
+        mark, number, rules = self._model()
         if rules is None:
             raise FeedFault("the store has no authorization model yet")
         try:
@@ -109,7 +110,7 @@ class OpenFgaFeed:
                 raise FeedFault("the changes do not show what the log has of them; begin a new log in another folder")
             changes = new
         put(Base(self.store, left, stored, changes, end if left is None else overlap.mark.cursor, *rules, began, received))
-        self.overlap, self.model_mark = overlap, mark
+        self.overlap, self.model_mark, self.model_id = overlap, mark, number
 
     def _take_all(self, overlap: Overlap, stored: Stored, back: int) -> Optional[str]:
         """Takes all changes so far, and gives the token at their end; those that are so much older than the newest, by the times of the
@@ -130,20 +131,28 @@ class OpenFgaFeed:
         """All changes that there are, and the model where it is another; None where it shows less than one before."""
         assert self.overlap is not None
         listed, ends = self._changes(self.overlap.cursor)
-        mark, rules = self._model()
+        mark, number, rules = self._model()
+        skips = rules is not None and not self._has_known_model()
         received = time.monotonic_ns()
         read = self.overlap.take(listed, ends[-1][1] if ends else self.overlap.cursor, began, received)
         if read is None:
             return None
-        self.model_mark = mark
-        return Changes(began, received, len(ends) < 2, read, rules)
+        self.model_mark, self.model_id = mark, number
+        return Changes(began, received, len(ends) < 2, read, rules, skips)
 
-    def _model(self) -> tuple[object, Optional[Rules]]:
-        """What tells the latest model from others, and its rules where it is another than before; None where there is none."""
-        mark, data = self.source.model(self.store)
+    def _model(self) -> tuple[object, object, Optional[Rules]]:
+        """What tells the latest model from others, its id, and its rules where it is another than before; None where there is none."""
+        mark, data = self.source.model(self.store, 1)
         models = [] if mark == self.model_mark else self.source.models(data)
         refusals = Refusals(True)
-        return mark, (ModelReader("the model", refusals).rules(models[0]), refusals) if models else None
+        if not models:
+            return mark, self.model_id, None
+        return mark, get(models[0], "id"), (ModelReader("the model", refusals).rules(models[0]), refusals)
+
+    def _has_known_model(self) -> bool:
+        """Whether the model that was read before is one of the last two."""
+        _, data = self.source.model(self.store, 2)
+        return any(get(one, "id") == self.model_id for one in self.source.models(data))
 
     def _only_store(self) -> str:
         stores = self.source.stores()
@@ -155,8 +164,10 @@ class OpenFgaFeed:
         """The changes behind a token to the end of the feed, page by page, each with the token at its end."""
         while True:
             page = self.source.changes(self.store, PAGE, cursor)
-            listed = get(page, "changes") or []
+            listed, before = get(page, "changes") or [], cursor
             cursor = get(page, "continuation_token") or cursor
+            if len(listed) >= PAGE and cursor == before:
+                raise FeedFault("the changes do not go on: a whole page ends with the token that it was asked by")
             if listed:
                 yield list(map(_change, listed)), cursor
             if len(listed) < PAGE:

@@ -19,7 +19,7 @@ from new_enemy_tools.recording.bodies import UNHEARD, body_of
 from new_enemy_tools.recording.core import refuse_headers
 from new_enemy_tools.recording.http_reading import path_of
 from new_enemy_tools.recording.messages import CHECKS, Ended
-from new_enemy_tools.recording.openfga import PATH, asks_for_newest, call_of
+from new_enemy_tools.recording.openfga import PATH, asks_for_newest, call_of, refuse_unknown
 from new_enemy_tools.recording.own_events import Own
 from new_enemy_tools.recording.reader import LABELS
 from new_enemy_tools.recording.sketches import JoinFault, Row, Value
@@ -179,7 +179,8 @@ class Payloads:
         _refuse_placed(row, row.value, "spicedb")
         asked = self.joining.waiting.get(next((row.value[key] for key in printed.REQUEST_ID if isinstance(row.value.get(key), str)), ""))
         if asked is None and printed.RESPONSE in row.value:
-            # The log begins behind its request.
+            # The log begins behind its request, or others have its id.
+            self.joining.go_on(row.value, row.line)
             value: Optional[Value] = {"method": row.value.get("grpc.method")}
         else:
             try:
@@ -210,7 +211,7 @@ def _logged(row: Row, took: int) -> Any:
     given = row.value
     for key in printed.mistyped(given):
         raise _fault(row, key.said())
-    if "raw_request" not in given and not isinstance(given.get("grpc_method"), str):
+    if not {"raw_request", "raw_response"} & given.keys() and not isinstance(given.get("grpc_method"), str):
         if printed.is_own_log(given):
             return None
         raise _fault(row, "no line of OpenFGA's log in JSON, and no tap of Envoy's tap filter (`%s`)" % printed.TAP)
@@ -262,6 +263,8 @@ def _tapped(row: Row) -> Any:
     try:
         for place, (part, headers) in enumerate(((request, asked), (response, answered))):
             bodies[place] = None if why is not None and place else _body(part, headers)
+        if why is None:
+            refuse_unknown(path, bodies[0])
     except Bad as fault:
         why = why or str(fault)
     return Call(store, bodies[0], bodies[1], began, ended, save, version, why)
@@ -276,7 +279,11 @@ def _headers(row: Row, message: object) -> dict[str, list[str]]:
     for one in listed:
         name, value, raw = get(one, "key"), get(one, "value"), get(one, "raw_value")
         if value is None and isinstance(raw, str):
-            value = base64.b64decode(raw).decode("utf-8", "replace")
+            try:
+                # Labels that differ stay apart.
+                value = base64.b64decode(raw, validate=True).decode("utf-8", "backslashreplace")
+            except ValueError:
+                raise _fault(row, "a header of the tap has a `raw_value` that is no Base64") from None
         if not isinstance(name, str) or not isinstance(value, str):
             raise _fault(row, "a header of the tap has no `key` or no `value`")
         found.setdefault(name.lower(), []).append(value)

@@ -1,12 +1,14 @@
 """Messages of gRPC as the JSON of the service's gateway, for the few fields that a recorder reads and writes."""
 from typing import Any, Mapping, NamedTuple, Optional, Union
 
-from new_enemy_tools.importing.reading import Bad
+from new_enemy_tools.importing.reading import Bad, spelled
 from new_enemy_tools.importing.times import text_of_time
 from new_enemy_tools.importing.zedtokens import fields
 
 TEXT, BOOL, NUMBER, ANY, TIME = "text", "bool", "number", "any", "time"
 SECOND = 10 ** 9
+# So much is told of a name.
+LONGEST = 60
 
 
 class Field(NamedTuple):
@@ -35,6 +37,7 @@ class Messages:
 
     def __init__(self, shapes: Mapping[str, Shape], strict: frozenset[str] = frozenset()):
         self.shapes, self.strict = shapes, strict
+        self.named = {shape: {field.name: field for field in fields.values()} for shape, fields in shapes.items()}
 
     def read(self, shape: str, data: bytes) -> dict[str, Any]:
         """A message as JSON; raises Malformed."""
@@ -76,6 +79,17 @@ class Messages:
         elif isinstance(field.kind, str) and field.kind in self.shapes:
             return self.read(field.kind, given)
         raise Malformed("%s has a field of another form (%s)" % (shape, field.name))
+
+    def refuse_unknown(self, shape: str, value: object) -> None:
+        """Raises Malformed where a message in JSON has a field that is not named here; services pass over such."""
+        known = self.named[shape]
+        for name, given in value.items() if isinstance(value, dict) else ():
+            field = known.get(name) or known.get(spelled(name))
+            if field is None:
+                raise Malformed("%s has a field that is not known (%s)" % (shape, name[:LONGEST]))
+            if isinstance(field.kind, str) and field.kind in self.shapes:
+                for one in given if isinstance(given, list) else [given]:
+                    self.refuse_unknown(field.kind, one)
 
     def written(self, shape: str, value: dict[str, Any]) -> bytes:
         """A message of JSON that has the fields of its shape alone."""

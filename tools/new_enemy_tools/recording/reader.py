@@ -24,7 +24,7 @@ class Exchange:
     """A request on its way, and what is kept of it where its call is recorded."""
 
     def __init__(self, call: Optional[str], head: Head, path: str):
-        self.call, self.path, self.is_head = call, path, head.words[0] == "HEAD"
+        self.call, self.path, self.method = call, path, head.words[0]
         self.number, self.begun = next(NUMBERS), time.time_ns()
         # what is still to be passed on of it; whether all of it came, some was passed on, it was told, and it has its answer
         self.held = bytearray()
@@ -138,7 +138,8 @@ class Reader:
         return found
 
     def _tell(self, one: Exchange) -> None:
-        if one.call in TOLD and not one.is_told and not one.is_answered:
+        """Of what goes on when no answer comes any more nothing is told."""
+        if one.call in TOLD and not one.is_told and not one.is_answered and not self.is_over:
             self.teller.tell(one.started())
 
     def _let_pass(self) -> None:
@@ -174,6 +175,7 @@ class Reader:
             if self.blind is None:
                 self._feed_end()
             self._give_up()
+            self._let_pass()
 
     def _give_up(self) -> None:
         """No answer will be read of what was asked; one that had begun broke off."""
@@ -212,13 +214,13 @@ class Reader:
         status = head.words[1]
         if len(status) != 3 or not status.isdigit():
             raise Strange("an answer without a status")
-        if status == "101":
-            raise Strange("another protocol")
         if not self.exchanges or not self.exchanges[0].is_passed:
             raise Strange("an answer without a request")
         exchange = self.exchanges[0]
+        if status == "101" or exchange.method == "CONNECT" and status.startswith("2"):
+            raise Strange("another protocol")
         exchange.status, exchange.encoding = int(status), head.text("content-encoding")
-        if exchange.is_head or status.startswith("1") or status in ("204", "304"):
+        if exchange.method == "HEAD" or status.startswith("1") or status in ("204", "304"):
             return 0
         return head.length()
 

@@ -1,10 +1,11 @@
 """The rules of a service as the log has them, and tuples of them."""
-from typing import Iterable, NamedTuple, Optional
+from itertools import islice
+from typing import Iterable, Iterator, NamedTuple, Optional
 
 from new_enemy_tools.importing.events import Relationship
 from new_enemy_tools.importing.refusals import Refusals
 from new_enemy_tools.importing.service import ServiceRules
-from new_enemy_tools.recording.lines import Came, hash_of_rules, rules_line, unmapped_line
+from new_enemy_tools.recording.lines import TUPLES, Came, base_lines, hash_of_rules, rules_line, unmapped_line
 
 
 class Unread(Exception):
@@ -50,6 +51,16 @@ class Takes:
         if reason is None and (given.user_type, given.user_relation) in self.takes.get((given.type, given.relation), ()):
             return None
         return unmapped_line(reason or "tuple that the rules do not take", str(given), given[:3])
+
+    def base_lines(self, revision: int, given: Iterator[tuple[Relationship, Optional[str]]]) -> Iterator[bytes]:
+        """The base state, which may be long; one line at least."""
+        some = list(islice(given, TUPLES))
+        while True:
+            kept, unmapped = self.sorted_out(some)
+            yield unmapped + b"".join(base_lines(revision, kept))
+            some = list(islice(given, TUPLES))
+            if not some:
+                return
 
     def sorted_out(self, given: Iterable[tuple[Relationship, Optional[str]]]) -> tuple[list[Relationship], bytes]:
         """The tuples that have a form, and the lines for the others."""

@@ -69,6 +69,8 @@ class Sequencer:
         self.saves: dict[int, int] = {}
         self.reached = 0
         self._number = 0
+        # how long the lines are that wait
+        self.size = 0
 
     def put_commit(self, commit: Commit) -> None:
         self.commits.append(commit)
@@ -76,6 +78,7 @@ class Sequencer:
 
     def put_entry(self, place: int, since: int, data: bytes, call: int) -> None:
         self._number += 1
+        self.size += len(data)
         heapq.heappush(self.ready, Ready(place, self._number, since, data, call))
 
     def drained(self) -> list[Union[Commit, Ready]]:
@@ -86,6 +89,7 @@ class Sequencer:
             limit = self.commits[0].revision - 1 if self.commits else self.reached
             while self.ready and self.ready[0].place <= limit:
                 found.append(heapq.heappop(self.ready))
+                self.size -= len(found[-1].data)
             first = self.commits[0] if self.commits else None
             if first is None or first.received > self.told_until or oldest is not None and oldest < first.revision:
                 return found
@@ -97,4 +101,5 @@ class Sequencer:
         if found:
             self.ready = [one for one in self.ready if not which(one)]
             heapq.heapify(self.ready)
+            self.size = sum(len(one.data) for one in self.ready)
         return found

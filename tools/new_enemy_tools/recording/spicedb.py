@@ -5,6 +5,7 @@ A revision is the one in the service's tokens, or on PostgreSQL the number of a 
 import time
 from collections import deque
 from functools import partial
+from itertools import chain
 from typing import Any, Callable, Iterable, Iterator, NamedTuple, Optional, Protocol
 
 from new_enemy_tools.importing.events import Relationship
@@ -18,13 +19,14 @@ from new_enemy_tools.importing.zedtokens import Older, Revision, Snapshot, read_
 from new_enemy_tools.recording.asking import FeedFault
 from new_enemy_tools.recording.bodies import UNHEARD, request_of, response_of
 from new_enemy_tools.recording.core import Asked, Begun, Core
-from new_enemy_tools.recording.lines import base_lines, line, time_text, write_line
+from new_enemy_tools.recording.lines import line, time_text, write_line
 from new_enemy_tools.recording.log_files import Left, Place
 from new_enemy_tools.recording.messages import Ended, Started
 from new_enemy_tools.recording.own_events import UNSURE
 from new_enemy_tools.recording.ruled import Takes, Unread, refuse_unread, ruled
 from new_enemy_tools.recording.sequencer import Commit, Known
 from new_enemy_tools.recording.sketches import FAR
+from new_enemy_tools.recording.stored import Stored
 from new_enemy_tools.recording.transactions import Transactions
 
 CALLS = {"/v1/permissions/check": "check", "/v1/permissions/checkbulk": "batch",
@@ -39,7 +41,7 @@ TOLD = 10 ** 9
 
 
 def call_of(method: str, path: str) -> Optional[str]:
-    return CALLS.get(path[path.find("/v1/"):]) if method == "POST" else None
+    return CALLS.get(path[path.rfind("/v1/"):]) if method == "POST" else None
 
 
 class Source(Protocol):
@@ -88,7 +90,7 @@ class Base(NamedTuple):
     left: Optional[Left]
     revision: Revision
     token: str
-    relationships: list[tuple[Relationship, Optional[str]]]
+    stored: Stored
     rules: Optional[ServiceRules]
     refusals: Refusals
 
@@ -177,11 +179,14 @@ class Feed:
         if left is not None:
             self.token, self.known = token, left.behind if revision.snapshot else 0
             self.number = left.revision
-            return Base(left, revision, token, [], rules, refusals)
-        listed = [(relationship_of(given), _traits(given)) for of in rules.event.namespaces if rules.event.namespaces[of]
-                  for given in self.source.relationships(of, token)]
+            return Base(left, revision, token, Stored(), rules, refusals)
+        stored = Stored()
+        for of in rules.event.namespaces:
+            for given in self.source.relationships(of, token) if rules.event.namespaces[of] else ():
+                if not stored.put(relationship_of(given), _traits(given)):
+                    raise Bad("a relationship with a line's end in it: %r" % (given,))
         self.token, self.number = token, revision.number or 0
-        return Base(None, revision, token, listed, rules, refusals)
+        return Base(None, revision, token, stored, rules, refusals)
 
     def _watched(self) -> Iterator[tuple[Watched, Revision]]:
         """The responses, each with the revision at which its rules were read."""
@@ -288,10 +293,9 @@ class SpiceDb:
             self.transactions = Transactions(base.revision.snapshot, left.revision - left.behind if left else 0)
         rules = ruled(base.rules, base.refusals, revision + 1, left is None)
         self.takes.add(rules.rules)
-        lines: list[bytes] = []
+        lines: Iterable[bytes] = []
         if left is None:
-            kept, unmapped = self.takes.sorted_out(base.relationships)
-            lines = [rules.data, unmapped, *base_lines(revision, kept), self._read(revision, core.now.wall)]
+            lines = chain([rules.data], self.takes.base_lines(revision, base.stored.items()), [self._read(revision, core.now.wall)])
         elif left.place.rules != rules.hash and self.transactions is None:
             # Nothing was recorded meanwhile, so it does not matter where in between they changed.
             revision += 1
@@ -300,7 +304,7 @@ class SpiceDb:
         self.base = revision if left is None else left.base
         self.history = Known(revision)
         core.sequencer.reached = revision
-        core.begin_log(Begun(lines, not base.relationships, self._first_place(base, revision, rules.hash)))
+        core.begin_log(Begun(lines, not base.stored.tuples, self._first_place(base, revision, rules.hash)))
 
     def _first_place(self, base: Base, revision: int, rules: str) -> Place:
         """Where the changes are when the log begins; on PostgreSQL the log may have some that come again."""
@@ -414,6 +418,8 @@ class SpiceDb:
             core.forget(message.number)
             return
         revision = revision_at(response)
+        # Of what waits the bodies are not needed any more.
+        message = message._replace(request=None, response=None)
         if (revision.number is None) != (self.transactions is not None):
             raise Bad("a token is of another datastore than those of the changes")
         if revision.snapshot is not None:

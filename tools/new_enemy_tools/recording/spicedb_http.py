@@ -25,11 +25,11 @@ class HttpSource:
 
     def relationships(self, of: str, token: str) -> Iterator[dict[str, Any]]:
         body = {"consistency": {"atExactSnapshot": {"token": token}}, "relationshipFilter": {"resourceType": of}}
-        for value in self.asker.stream("/v1/relationships/read", body, QUIET):
+        for value in self.asker.stream("/v1/relationships/read", body, QUIET, True):
             yield get(_result(value), "relationship")
 
     def watch(self, token: str) -> Iterator[dict[str, Any]]:
-        for value in self.asker.stream("/v1/watch", {"optionalStartCursor": {"token": token}, "optionalUpdateKinds": KINDS}, QUIET):
+        for value in self.asker.stream("/v1/watch", {"optionalStartCursor": {"token": token}, "optionalUpdateKinds": KINDS}, QUIET, False):
             yield _result(value)
 
 

@@ -1,4 +1,4 @@
-"""The tuples that the changes of a service left so far, kept small: each is one text."""
+"""The tuples that a service has, or that its changes left so far, kept small: each is one text."""
 from typing import Iterator, Optional
 
 from new_enemy_tools.importing.events import Relationship
@@ -17,13 +17,19 @@ class Stored:
 
     def take(self, change: Change) -> None:
         self.count += 1
-        text = None if change.given is None else APART.join(one or "" for one in change.given)
-        if text is None or text.count(APART) != len(Relationship._fields) - 1:
+        if change.given is None or not self.put(change.given, change.reason, change.live):
             self.odd.append(change)
-        elif change.live:
-            self.tuples[text] = change.reason
+
+    def put(self, given: Relationship, reason: Optional[str], live: bool = True) -> bool:
+        """Whether a tuple could be kept, or taken away."""
+        text = APART.join(one or "" for one in given)
+        if text.count(APART) != len(Relationship._fields) - 1:
+            return False
+        if live:
+            self.tuples[text] = reason
         else:
             self.tuples.pop(text, None)
+        return True
 
     def items(self) -> Iterator[tuple[Relationship, Optional[str]]]:
         for text, reason in self.tuples.items():
