@@ -2,7 +2,7 @@
 
     events = Events("/var/log/app/events", store="01HVMMBCMGZNT3SED4Z17ECXCA")
     with events.asked("user:bob", "viewer", "document:plan", newest=True, shows="v2") as asked:
-        asked.reply = client.check(...)
+        asked.reply = client.check(...).allowed
 
 Of SpiceDB there is no store, and each check says by which token it was answered:
 
@@ -30,7 +30,7 @@ def _text(at):
 
 class Asked:
     """A check under way; `reply` is to be true or false when it has its answer, and of SpiceDB `snapshot` the token `checked_at`. One without
-    a reply records no decision."""
+    a reply records no decision, and one whose reply is something else is counted as lost."""
 
     reply = snapshot = None
 
@@ -38,12 +38,9 @@ class Asked:
 class Events:
     def __init__(self, folder, store=None):
         os.makedirs(folder, exist_ok=True)
-        now = time.time_ns()
-        self.path = os.path.join(folder, "%d-%d.events" % (now, os.getpid()))
-        self.lock, self.count, self.lost, self.since = threading.Lock(), 0, 0, now
-        self.file = os.open(self.path, os.O_CREAT | os.O_EXCL | os.O_WRONLY | os.O_APPEND, 0o600)
-        self.service = "spicedb" if store is None else "openfga"
-        self._write({"event": "own", "format": 1, "service": self.service, "store": store, "time": _text(now)})
+        self.folder, self.store, self.service = folder, store, "spicedb" if store is None else "openfga"
+        self.lock, self.lost, self.since = threading.Lock(), 0, 0
+        self._begin()
 
     @contextlib.contextmanager
     def asked(self, user, relation, object, newest=False, saves=None, shows=None, model=None, token=None):
@@ -52,37 +49,65 @@ class Events:
         one. `token` is what a request of SpiceDB demands, or with `saves` what is stored with the version, where that is not the snapshot. A
         check with contextual tuples or a context for conditions or caveats is not to be told."""
         one, began = Asked(), time.time_ns()
-        yield one
-        ended = time.time_ns()
-        if isinstance(one.reply, bool):
-            thing, who = object.split(":", 1), user.split(":", 1)
-            line = {"event": "asked", "began": _text(began), "ended": _text(ended), "goal": [*thing, relation, *who], "reply": one.reply,
-                    "newest": newest, "saves": saves, "shows": shows, "model": model, "token": token, "snapshot": one.snapshot}
+
+        def line():
+            labels = [None if label is None else str(label) for label in (saves, shows)]
             # Where the clock went back it is not known when the check was asked.
-            self._tell(line, began, ended, began <= ended and (one.snapshot is not None or self.service == "openfga"))
+            is_whole = began <= ended and isinstance(one.reply, bool) and "" not in labels and None in labels
+            if not is_whole or one.snapshot is None and self.service == "spicedb":
+                raise ValueError("no time, no snapshot, or what a line can't have")
+            return {"event": "asked", "began": _text(began), "ended": _text(ended), "goal": [*object.split(":", 1), relation, *user.split(":", 1)],
+                    "reply": one.reply, "newest": bool(newest), "saves": labels[0], "shows": labels[1], "model": model, "token": token,
+                    "snapshot": one.snapshot}
+        try:
+            yield one
+        finally:
+            # Whatever the application does behind its answer, it had that.
+            ended = time.time_ns()
+            if one.reply is not None:
+                self._tell(line, began, ended)
 
     def close(self):
-        """Says that all was told; a file without that is one of a process that was killed."""
+        """Says that all was told; a file without that is one of a process that was killed. What is told later stands in another file."""
         with self.lock:
-            self._write({"event": "over", "time": _text(time.time_ns()), "asked": self.count})
-            os.close(self.file)
+            if self.file is None:
+                return
+            now = time.time_ns()
+            try:
+                self._write({"event": "over", "time": _text(now), "asked": self.count}, now)
+            finally:
+                os.close(self.file)
+                self.file = None
 
-    def _tell(self, line, began, ended, is_whole):
+    def _begin(self):
+        now = time.time_ns()
+        self.path = os.path.join(self.folder, "%d-%d.events" % (now, os.getpid()))
+        self.file, self.count = os.open(self.path, os.O_CREAT | os.O_EXCL | os.O_WRONLY | os.O_APPEND, 0o600), 0
+        try:
+            self._write({"event": "own", "format": 1, "service": self.service, "store": self.store, "time": _text(now)})
+        except OSError:
+            os.close(self.file)
+            os.remove(self.path)
+            self.file = None
+            raise
+
+    def _tell(self, line, began, ended):
         with self.lock:
             try:
-                if not is_whole:
-                    raise OSError("no snapshot, or no time")
-                if self.lost:
-                    self._write({"event": "lost", "from": _text(min(self.since, ended)), "to": _text(max(self.since, ended)), "count": self.lost})
-                    self.lost = 0
-                self._write(line)
+                if self.file is None:
+                    self._begin()
+                self._write(line(), ended)
                 self.count += 1
-            except OSError:
+            except Exception:
+                # Whatever it is, it fails no request.
                 self.since = min(self.since, began) if self.lost else began
                 self.lost += 1
 
-    def _write(self, line):
-        """Writes a line whole; what was written of it by half is cut."""
+    def _write(self, line, at=None):
+        """Writes a line whole, behind what was lost up to a time; what was written of it by half is cut."""
+        if at is not None and self.lost:
+            self._write({"event": "lost", "from": _text(min(self.since, at)), "to": _text(max(self.since, at)), "count": self.lost})
+            self.lost = 0
         data = json.dumps({key: value for key, value in line.items() if value is not None}, separators=(",", ":")).encode() + b"\n"
         size = os.fstat(self.file).st_size
         if os.write(self.file, data) != len(data):
