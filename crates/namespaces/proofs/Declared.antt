@@ -75,7 +75,7 @@ first : (o : Option Relation) (ys : List Relation) (x : Relation) → o ≡ Some
 first None ys x h = cc
 first (Some y) ys x h = record { place = 0; there = h }
 
-one_of : (o p : Option Relation) (x : Relation) (A : Type 0) → option_or o p ≡ Some x → (o ≡ Some x → A) → (p ≡ Some x → A) → A
+pub one_of : (o p : Option Relation) (x : Relation) (A : Type 0) → option_or o p ≡ Some x → (o ≡ Some x → A) → (p ≡ Some x → A) → A
 one_of None p x A h later here = here h
 one_of (Some y) p x A h later here = later h
 

@@ -13,6 +13,7 @@ pub mod Points
 pub mod Repeats
 pub mod Revisions
 pub mod Shapes
+pub mod Since
 pub mod Tables
 pub mod Times
 pub mod Walks

@@ -3,7 +3,7 @@ ghost use Rattle.std.specs.Prelude.{◌≡◌, ℕ, List, None, Some, Contains, 
 ghost use Rattle.tuple_text.specs.Refs.{set_value};
 ghost use Rattle.namespaces.specs.Declaration.{declared};
 ghost use Rattle.namespaces.specs.Declaring.{AreDeclarers};
-ghost use Rattle.namespaces.specs.InForce.{names_in_force};
+ghost use Rattle.namespaces.specs.InForce.{IsDeclaredFrom, names_in_force};
 ghost use Rattle.rewrites.specs.Leaves.{AreLeavesOf};
 ghost use Rattle.namespaces.specs.Lookup.{expression_in, rule_of, rule_at, relation_of, relation_count, relations_of, number_of, place_of, namespace_names, namespace_numbered, relation_numbered, history_numbered, with_name};
 ghost use Rattle.rewrites.specs.Plain.{ArePlain};
@@ -336,6 +336,17 @@ impl Rules {
             Some(numbers) => *numbers,
             None => Numbers::none(),
         }
+    }
+
+    /// The timestamp from which on a relation is declared, or `None` where it never is. What is declared stays
+    /// declared. The object id of the userset is not looked at.
+    pub fn declared_from(&self, set: SetRef<'_>) -> Option<u64>
+        ensures { IsDeclaredFrom result (set_value set.entry) self.now }
+    {
+        let index = self.newest(set.namespace)?.place(set.relation)?;
+        let revisions = self.namespaces.get(set.namespace)?;
+        let first = revision_with(revisions.as_slice(), index, 0)?;
+        Some(first.at)
     }
 
     /// A copy of the rules.

@@ -1,10 +1,9 @@
 -- What the passes over the changelog show.
 use Rattle.std.proofs.Common.{◌≡◌, ℕ, zero, suc, true≢false, ◌+◌, ◌<◌, ◌≤◌, ◌^◌, Bool, true, false, List, [], ◌∷◌, ◌++◌, length, refl, sym, ◌∙◌, ap, subst, Option, None, Some, inl, inr, arith}
-use Rattle.std.specs.Prelude.{Contains, nat_lt, slice_get, slice_set, option_map, unwrap_or, nat_le, if◌then◌else◌, IsPermutation}
+use Rattle.std.specs.Prelude.{Contains, nat_lt, slice_get, slice_set, unwrap_or, IsPermutation}
 use Rattle.std.specs.List.{list_any}
-use Rattle.std.specs.Option.{option_or}
 use Rattle.std.proofs.Math.Nat.{eq-or-lt_of_le}
-use Rattle.std.proofs.lemmas.Bool.{le-leb, leb-true}
+use Rattle.std.proofs.lemmas.Bool.Decides.{nat_tests}
 use Rattle.std.proofs.lemmas.List.Elements.{Contains-append_left, Contains-push}
 use Rattle.std.proofs.lemmas.List.Sorted.{Contains-permutation}
 use Rattle.std.proofs.lemmas.Option.{slice_get_within}
@@ -12,15 +11,15 @@ use Rattle.tuple_text.specs.Order.{tuple_eq}
 use Rattle.tuple_text.specs.Sets.{SetValue}
 use Rattle.tuple_text.specs.declared.users.User.TheVariants.{Set}
 use Rattle.tuple_text.proofs.ValueLemmas.{tuple_eq-same}
-use Rattle.rewrites.proofs.Names.{or_false}
+use Rattle.rewrites.proofs.Names.{by_bool, or_false}
 use Rattle.namespaces.specs.Declaration.{Declaration}
-use Rattle.namespaces.specs.Lookup.{Rule, as_rule, declared_in, in_force, relation_at, rule_at, rule_of}
+use Rattle.namespaces.specs.InForce.{IsDeclaredFrom}
 use Rattle.version_chains.specs.Commits.{Touch}
 use Rattle.marks.specs.Marks.{set_mark}
 use Rattle.marks.specs.Placed.{last_place, passes}
 use Rattle.marks.proofs.PlacedLemmas.{at_last_place, length-more, slice_get-cases, slice_get-set}
-use Rattle.userset_index.specs.Building.{AreSetMarks, HaveEnds, HoldsFirst, IsCrowdedLifeOf, IsEnd, IsMarkAt, IsSetMark, IsUndeclaredBelow, kept}
-use Rattle.userset_index.specs.Index.{Holds, HoldsThrough, IsFound, IsMark, count_of, few, is_crowded}
+use Rattle.userset_index.specs.Building.{AreSetMarks, HaveEnds, HoldsFirst, IsCrowdedLifeOf, IsEnd, IsMarkAt, IsSetMark, kept}
+use Rattle.userset_index.specs.Index.{Holds, HoldsThrough, IsDeclaredAt, IsFound, IsMark, count_of, few, is_crowded}
 use Rattle.userset_index.specs.Lives.{is_alive}
 use Rattle.userset_index.specs.declared.life.Life.{Life}
 use Rattle.userset_index.specs.declared.life.Way.{Way}
@@ -58,40 +57,13 @@ module _ (touches : List Touch) (ends : List ℕ) (have : HaveEnds touches ends)
 
 -- ---- declarations
 
-or_none : {X : Type 0} (a b : Option X) → option_or a b ≡ None → (a ≡ None) × (b ≡ None)
-or_none None b h = (refl, h)
-or_none (Some x) b h = absurd cc
-
-map_none : {X Y : Type 0} (f : X → Y) (o : Option X) → option_map f o ≡ None → o ≡ None
-map_none f None h = refl
-map_none f (Some x) h = absurd cc
-
--- what is not declared at a timestamp is not declared before it
-relation_before : (ds : List Declaration) (a b : ℕ) (q r : List ℕ) → a ≤ b → relation_at ds b q r ≡ None → relation_at ds a q r ≡ None
-relation_before [] a b q r less none = refl
-relation_before (d ∷ ds) a b q r less none =
-    let both = or_none (relation_at ds b q r) (in_force b q r d) none in
-    let rest = relation_before ds a b q r less both.0 in
-    let first : in_force a q r d ≡ None = by_test (nat_le d.at a) refl both.1 in
-    rw (rest, first) refl
-  where
-    by_test : (t : Bool) → nat_le d.at a ≡ t → in_force b q r d ≡ None → (if t then declared_in q r d else None) ≡ None
-    by_test false e h = refl
-    by_test true e h =
-        let early = leb-true d.at a e in
-        let later : nat_le d.at b ≡ true = le-leb d.at b (omega (arith, early, less)) in
-        sym (ap (λ (t : Bool). if t then declared_in q r d else None) later) ∙ h
-
-pub undeclared_before : (ds : List Declaration) (g : SetValue) (a b : ℕ) → a ≤ b → rule_of (rule_at ds b) g ≡ None → rule_of (rule_at ds a) g ≡ None
-undeclared_before ds g a b less none = ap (option_map as_rule) (relation_before ds a b g.namespace g.relation less (map_none as_rule (relation_at ds b g.namespace g.relation) none))
-
--- by what a look-up says of it
-pub undeclared_by : {X Y : Type 0} (f : X → Y) (h : Rule → Y) (o : Option X) (r : Option Rule) → option_map f o ≡ option_map h r → o ≡ None → r ≡ None
-undeclared_by f h o None same none = refl
-undeclared_by f h o (Some r) same none = absurd (let bad : None ≡ Some (h r) = sym (ap (option_map f) none) ∙ same in cc)
-
-pub undeclared_below : (ds : List Declaration) (g : SetValue) (middle : ℕ) → rule_of (rule_at ds middle) g ≡ None → IsUndeclaredBelow ds g (middle + 1)
-undeclared_below ds g middle none at less = undeclared_before ds g at middle (omega (arith, less)) none
+-- what is declared at a timestamp is so from one on that is no later
+pub declared_since : (ds : List Declaration) (g : SetValue) (at : ℕ) (o : Option ℕ) → IsDeclaredFrom o g ds → IsDeclaredAt ds at g
+    → (from : ℕ) × (o ≡ Some from) × (from ≤ at)
+declared_since ds g at None never declared = absurd (declared (never at))
+declared_since ds g at (Some from) since declared = by_bool (nat_lt at from)
+    (λ t. let early : at < from = grind (arith, nat_tests) in absurd (declared ((since at).1 early)))
+    (λ f. let late : from ≤ at = grind (arith, nat_tests) in (from, refl, late))
 
 -- ---- marks
 

@@ -1,8 +1,7 @@
 -- A life that ends, and what bounds it.
-use Rattle.std.proofs.Common.{◌≡◌, ℕ, zero, suc, ◌+◌, ◌-◌, ◌<◌, ◌≤◌, ◌⊎◌, inl, inr, min, max, Bool, true, false, List, [], ◌∷◌, length, map, refl, sym, ◌∙◌, ap, subst, None, Some, arith, nat_eq}
+use Rattle.std.proofs.Common.{◌≡◌, ℕ, zero, suc, ◌<◌, ◌≤◌, ◌⊎◌, inl, inr, min, true, false, List, [], ◌∷◌, length, refl, sym, ◌∙◌, ap, subst, Some, arith, nat_eq}
 use Rattle.std.specs.Prelude.{slice_get, slice_set}
 use Rattle.std.proofs.lemmas.Bool.{cases_lt, eq-eqb, eqb-true}
-use Rattle.std.proofs.lemmas.List.{length-map}
 use Rattle.version_chains.proofs.ArenaLemmas.{item_of}
 use Rattle.marks.specs.Placed.{last_place}
 use Rattle.marks.proofs.PlacedLemmas.{at_last_place, last_place-map, slice_get-set}

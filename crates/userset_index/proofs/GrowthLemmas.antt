@@ -1,10 +1,10 @@
 -- A touch more in an index that grows.
-use Rattle.std.proofs.Common.{◌≡◌, ℕ, zero, suc, ◌+◌, ◌-◌, ◌<◌, ◌≤◌, ◌^◌, ◌⊎◌, inl, inr, min, Bool, true, false, take, List, [], ◌∷◌, ◌++◌, length, get_or, refl, sym, ◌∙◌, ap, subst, Option, None, Some, arith, append_assoc, append-nil, length-append}
+use Rattle.std.proofs.Common.{◌≡◌, ℕ, zero, suc, ◌+◌, ◌-◌, ◌<◌, ◌≤◌, ◌^◌, ◌⊎◌, inl, inr, min, true, false, take, List, [], ◌∷◌, ◌++◌, length, refl, sym, ◌∙◌, ap, subst, Option, None, Some, arith, length-append}
 use Rattle.std.specs.Prelude.{slice_get, nat_le, Contains, IfSome}
 use Rattle.std.specs.List.{AllByRecursion, IsDistinct}
 use Rattle.std.proofs.Math.Seq.{take-length}
 use Rattle.std.proofs.lemmas.Bool.{cases_lt, and_parts, le-leb, leb-true}
-use Rattle.std.proofs.lemmas.List.Elements.{Contains-append_left, Contains-push, Contains-push_cases}
+use Rattle.std.proofs.lemmas.List.Elements.{Contains-push_cases}
 use Rattle.std.proofs.lemmas.Option.{get_or_from_slice_get, slice_get-get_or, slice_get_within}
 use Rattle.tuple_text.specs.Order.{tuple_eq}
 use Rattle.tuple_text.specs.declared.users.User.TheVariants.{Set}
@@ -26,7 +26,7 @@ use Rattle.userset_index.specs.Lives.{ended, is_alive, shortened}
 use Rattle.userset_index.specs.declared.life.Life.{Life}
 use Rattle.userset_index.proofs.BuildLemmas.{found_here, kept_further}
 use Rattle.userset_index.proofs.EndLemmas.{reaches}
-use Rattle.userset_index.proofs.EndedLemmas.{ended_cases, ended_here, ended_other, ended_past}
+use Rattle.userset_index.proofs.EndedLemmas.{ended_cases, ended_here, ended_other}
 use Rattle.userset_index.proofs.ExactLemmas.{of_first_next, of_first_none}
 
 element : {X : Type 0} (xs : List X) (i : ℕ) (x : X) → slice_get xs i ≡ Some x → Contains xs x

@@ -3,7 +3,6 @@ use Rattle.std.specs.Prelude.{◌≡◌, ◌≤◌, ◌<◌, ◌^◌, ℕ, true,
 use Rattle.tuple_text.specs.Sets.{SetValue}
 use Rattle.tuple_text.specs.declared.users.User.TheVariants.{Set}
 use Rattle.namespaces.specs.Declaration.{Declaration}
-use Rattle.namespaces.specs.Lookup.{rule_at, rule_of}
 use Rattle.version_chains.specs.Commits.{Touch}
 use Rattle.marks.specs.Marks.{set_mark}
 use Rattle.userset_index.specs.Index.{AreExact, AreOnce, Holds, HoldsThrough, IsFound, IsLastTouch, IsMark, is_crowded}
@@ -39,12 +38,6 @@ abbrev pub AreRising : List Touch → Type 0
 AreRising touches =
     (i j : ℕ) (x y : Touch) → i < j → slice_get touches i ≡ Some x → slice_get touches j ≡ Some y → y.tuple ≡ x.tuple
     → x.at < y.at
-
-abbrev pub IsNeverDeclared : List Declaration → SetValue → Type 0
-IsNeverDeclared ds g = (at : ℕ) → at < 2 ^ 64 → rule_of (rule_at ds at) g ≡ None
-
-abbrev pub IsUndeclaredBelow : List Declaration → SetValue → ℕ → Type 0
-IsUndeclaredBelow ds g from = (at : ℕ) → at < from → rule_of (rule_at ds at) g ≡ None
 
 -- a mark by which a userset is looked for at a timestamp is this one, from a timestamp on that is no later
 abbrev pub IsKeyOf : List Declaration → Way → SetValue → SetValue → Option (ℕ × ℕ) → Type 0

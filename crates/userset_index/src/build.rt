@@ -1,15 +1,14 @@
 //! Making an index, in passes over the changelog.
 
-ghost use Rattle.std.specs.Prelude.{◌≡◌, ◌<◌, ◌≤◌, ◌^◌, ◌++◌, ℕ, None, Some, List, length, slice_get, nat_lt, IfOk, MatchOption, OnOk, IfSome, IsPermutation, Contains};
+ghost use Rattle.std.specs.Prelude.{◌≡◌, ◌<◌, ◌≤◌, ◌^◌, ◌++◌, ℕ, None, Some, List, length, slice_get, nat_lt, IfOk, OnOk, IfSome, IsPermutation, Contains};
 ghost use Rattle.std.specs.List.{list_any};
 ghost use Rattle.tuple_text.specs.Refs.{set_value};
 ghost use Rattle.tuple_text.specs.Sets.{SetValue};
 ghost use Rattle.tuple_text.specs.declared.users.User.TheVariants.{Set};
-ghost use Rattle.namespaces.specs.Lookup.{rule_at, rule_of};
 ghost use Rattle.version_chains.specs.Commits.{Touch, changelog};
 ghost use Rattle.marks.specs.Marks.{set_mark};
 ghost use Rattle.version_chains.specs.Touches.{touch_value};
-ghost use Rattle.userset_index.specs.Building.{AreEnds, AreRising, AreSetMarks, IsCrowdedLifeOf, IsUndeclaredBelow, IsKeyOf, IsLifeOf, IsMarkAt, IsMarkOf, IsNeverDeclared, IsSetMark, IsWithin, kept};
+ghost use Rattle.userset_index.specs.Building.{AreEnds, AreRising, AreSetMarks, IsCrowdedLifeOf, IsKeyOf, IsLifeOf, IsMarkAt, IsMarkOf, IsSetMark, IsWithin, kept};
 ghost use Rattle.userset_index.specs.Index.{AreExact, Holds};
 ghost use Rattle.userset_index.specs.Index as spec;
 
@@ -150,32 +149,6 @@ pub(crate) fn ends_of(alloc: Global, chains: &Chains) -> Result<Vec<u64>, AllocE
     Ok(ends)
 }
 
-/// From which timestamp on the relation of a userset is declared. `None` where it never is.
-///
-/// What is declared stays declared, so this is found by halving, in at most 64 steps.
-fn declared_from(rules: &Rules, set: SetRef<'_>) -> Option<u64>
-    ensures { MatchOption result (IsNeverDeclared rules.now (set_value set.entry))
-        (IsUndeclaredBelow rules.now (set_value set.entry)) }
-{
-    if rules.body(set, 0).is_some() {
-        return Some(0);
-    }
-    if rules.body(set, u64::MAX).is_none() {
-        return None;
-    }
-    let mut low = 0;
-    let mut high = u64::MAX;
-    while low < high {
-        let middle = low + (high - low) / 2;
-        if rules.body(set, middle).is_some() {
-            high = middle;
-        } else {
-            low = middle + 1;
-        }
-    }
-    Some(low)
-}
-
 /// The mark by which the usersets of an object are looked for that are stored in a userset with this mark.
 pub(crate) fn object_mark(mark: u64, user: SetRef<'_>) -> u64
     ensures { (s : SetValue) → mark ≡ set_mark s → result ≡ spec.object_mark s (set_value user.entry) }
@@ -194,7 +167,7 @@ fn key_of(way: Way, rules: &Rules, mark: u64, user: SetRef<'_>) -> Option<(u64, 
 {
     match way {
         Way::Own => {
-            let from = declared_from(rules, user)?;
+            let from = rules.declared_from(user)?;
             Some((mark, from))
         }
         Way::Object => Some((object_mark(mark, user), 0)),

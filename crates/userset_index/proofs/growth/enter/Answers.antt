@@ -1,4 +1,4 @@
-use Rattle.std.proofs.Common.{◌≡◌, ◌∙◌, ◌+◌, ℕ, List, [], ◌∷◌, ◌++◌, length, Option, Some, ap, subst, sym, arith, rules}
+use Rattle.std.proofs.Common.{◌≡◌, ◌+◌, List, [], ◌∷◌, ◌++◌, length, Option, Some, subst, sym, rules}
 use Rattle.std.specs.Prelude.{IfSome}
 use Rattle.userset_index.specs.Growth.{ArePlaced}
 use Rattle.userset_index.specs.declared.life.Life.{Life}

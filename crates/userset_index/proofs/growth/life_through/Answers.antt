@@ -1,11 +1,8 @@
-use Rattle.std.proofs.Common.{◌≡◌, ◌∙◌, ℕ, true, Option, None, Some, refl, ap, subst, sym}
-use Rattle.std.specs.Prelude.{IfSome, slice_get}
-use Rattle.tuple_text.specs.Sets.{SetValue}
+use Rattle.std.proofs.Common.{◌≡◌, ◌∙◌, true, None, Some, refl, ap, subst, sym}
+use Rattle.std.specs.Prelude.{slice_get}
 use Rattle.marks.specs.Marks.{pair_mark, set_mark}
-use Rattle.version_chains.specs.Commits.{Touch}
 use Rattle.userset_index.specs.Index.{object_mark}
 use Rattle.userset_index.specs.Lives.{is_alive}
-use Rattle.userset_index.specs.Objects.{IsSameLife}
 use Rattle.userset_index.specs.declared.life.Life.{Life}
 use Rattle.userset_index.proofs.growth.life_through.Goals as goal
 

@@ -1,11 +1,5 @@
-use Rattle.std.proofs.Common.{◌≡◌, ◌∙◌, ◌+◌, ◌-◌, ◌≤◌, ℕ, List, Some, ap, suc, sym, nat_eq, arith, rules}
-use Rattle.std.specs.Prelude.{slice_get}
-use Rattle.marks.specs.Placed.{last_place}
-use Rattle.version_chains.proofs.ArenaLemmas.{item_of}
+use Rattle.std.proofs.Common.{◌≡◌, ◌-◌, ◌≤◌, suc, arith, rules}
 use Rattle.marks.proofs.PlacedLemmas.{read_item}
-use Rattle.userset_index.specs.Spans.{life_of, lives_of, marks_of}
-use Rattle.userset_index.specs.declared.life.Life.{Life}
-use Rattle.userset_index.specs.declared.spans.Span.{Span}
 use Rattle.userset_index.proofs.EndedLemmas.{bounds_alone, bounds_joined, older_place}
 use Rattle.userset_index.proofs.spans.bound_of.Goals as goal
 

@@ -1,4 +1,4 @@
-use Rattle.std.proofs.Common.{◌≡◌, ◌-◌, ◌^◌, length}
+use Rattle.std.proofs.Common.{◌≡◌, ◌-◌, ◌^◌}
 use Rattle.userset_index.specs.Lives.{ended}
 use Rattle.userset_index.specs.Spans.{AreGrown, lives_of}
 use Rattle.userset_index.proofs.spans.end_at.Given as goal

@@ -1,10 +1,9 @@
-use Rattle.std.proofs.Common.{◌≡◌, ◌∙◌, ◌<◌, ◌≤◌, ℕ, Some, length, min, refl, ap, subst, sym, arith, rules}
+use Rattle.std.proofs.Common.{◌≡◌, ◌∙◌, ℕ, Some, length, min, refl, ap, subst, sym, arith, rules}
 use Rattle.std.specs.Prelude.{slice_get, slice_set}
 use Rattle.std.proofs.lemmas.List.{length-map}
 use Rattle.std.proofs.lemmas.Option.{slice_get_read}
 use Rattle.userset_index.specs.Spans.{AreBounded, life_of, lives_of}
-use Rattle.userset_index.specs.declared.spans.Span.{Span}
-use Rattle.userset_index.proofs.EndedLemmas.{bounded_shorter, ended_past, ends_by, lives_set}
+use Rattle.userset_index.proofs.EndedLemmas.{bounded_shorter, ended_past, lives_set}
 use Rattle.userset_index.proofs.spans.shorten.Goals as goal
 
 pub returns-then-index-len-clause-lives : goal.returns-then-index-len-clause-lives

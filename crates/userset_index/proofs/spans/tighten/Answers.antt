@@ -1,8 +1,7 @@
-use Rattle.std.proofs.Common.{◌≡◌, ◌∙◌, ◌<◌, List, Some, length, ap, refl, subst, sym, arith, rules}
-use Rattle.std.specs.Prelude.{slice_get, slice_set}
+use Rattle.std.proofs.Common.{◌≡◌, ◌∙◌, List, Some, length, ap, refl, subst, sym, arith}
+use Rattle.std.specs.Prelude.{slice_get}
 use Rattle.std.proofs.lemmas.Option.{slice_get_read}
-use Rattle.userset_index.specs.Spans.{AreBounded, Bounds, lives_of, marks_of}
-use Rattle.userset_index.specs.declared.life.Life.{Life}
+use Rattle.userset_index.specs.Spans.{Bounds, marks_of}
 use Rattle.userset_index.specs.declared.spans.Span.{Span}
 use Rattle.userset_index.proofs.EndedLemmas.{bounded_tighter, lives_bounded}
 use Rattle.userset_index.proofs.spans.tighten.Goals as goal

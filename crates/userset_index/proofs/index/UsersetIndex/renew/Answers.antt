@@ -1,5 +1,4 @@
-use Rattle.std.proofs.Common.{◌≡◌, ◌∙◌, true, length, subst, sym, ap}
-use Rattle.userset_index.specs.Growth.{IsBegun, IsReady}
+use Rattle.std.proofs.Common.{◌∙◌, sym, ap}
 use Rattle.userset_index.specs.Index.{IndexValue}
 use Rattle.userset_index.proofs.GrowthLemmas.{ready_still}
 use Rattle.userset_index.proofs.index.UsersetIndex.renew.Goals as goal

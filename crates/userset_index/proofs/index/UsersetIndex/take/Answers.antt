@@ -1,14 +1,13 @@
-use Rattle.std.proofs.Common.{◌≡◌, ◌∙◌, ◌-◌, ◌^◌, ℕ, Option, Some, length, sym, subst, rules}
+use Rattle.std.proofs.Common.{◌≡◌, ◌-◌, ◌^◌, ℕ, Some, length, sym, subst, rules}
 use Rattle.std.specs.Prelude.{IfSome, slice_get}
 use Rattle.std.proofs.lemmas.Result.{on_ok_weaker}
 use Rattle.tuple_text.specs.Order.{tuple_eq}
-use Rattle.version_chains.specs.Commits.{Touch, changelog}
+use Rattle.version_chains.specs.Commits.{changelog}
 use Rattle.version_chains.specs.Touches.{touch_value}
 use Rattle.marks.specs.Placed.{last_place}
 use Rattle.userset_index.specs.Building.{IsWithin}
-use Rattle.userset_index.specs.Growth.{IsGrownTo, IsLifeBy, IsMarkThrough, taken_of}
+use Rattle.userset_index.specs.Growth.{IsGrownTo, IsLifeBy, taken_of}
 use Rattle.userset_index.specs.Index.{IndexValue, IsMark}
-use Rattle.userset_index.specs.declared.life.Life.{Life}
 use Rattle.userset_index.specs.declared.life.Way.TheVariants.{Object, Own}
 use Rattle.userset_index.proofs.GrowthLemmas.{grown_next}
 use Rattle.userset_index.proofs.index.UsersetIndex.take.Goals as goal

@@ -1,6 +1,6 @@
-use Rattle.std.proofs.Common.{◌≡◌, ◌∙◌, ◌++◌, ◌∷◌, [], ℕ, List, ap, length, subst, sym, rules}
+use Rattle.std.proofs.Common.{◌≡◌, ◌∙◌, ◌++◌, ◌∷◌, [], ℕ, List, ap, length, subst, sym}
 use Rattle.std.proofs.lemmas.List.{map-append}
-use Rattle.userset_index.specs.Spans.{AreBounded, AreGrown, IsBounded, life_of, lives_of, marks_of}
+use Rattle.userset_index.specs.Spans.{AreBounded, IsBounded, life_of, lives_of, marks_of}
 use Rattle.userset_index.specs.declared.life.Life.{Life}
 use Rattle.userset_index.specs.declared.spans.Span.{Span}
 use Rattle.userset_index.proofs.SpanLemmas.{more_bounded}
