@@ -172,26 +172,27 @@ zookie_field = of_text_is token_text zookie_in (λ z. z.at < 2 ^ 64) zookie_in_t
 -- ---- entries, commits
 
 abbrev CheckFits : CheckFields → Type 0
-CheckFits p = ⊤ × (⊤ × (IsFact p.1.1.0 × ((p.1.1.1.0 < 2 ^ 64) × (IfThere (λ z. z.at < 2 ^ 64) p.1.1.1.1.0 × IfThere (λ t. length t < 2 ^ 64) p.1.1.1.1.1))))
+CheckFits p =
+    ⊤ × (IsFact p.1.0 × ((p.1.1.0 < 2 ^ 64)
+    × (IfThere (λ z. z.at < 2 ^ 64) p.1.1.1.0 × IfThere (λ t. length t < 2 ^ 64) p.1.1.1.1)))
 
 check_field : (kind : CheckKind) → IsField (λ p. check_text (check_of kind p)) check_fields_at CheckFits
 unfolding check_fields_at
 check_field kind =
-    pair (flag_is (codes "open\n") (codes "kept\n") (λ rest. refl))
-    (pair (flag_is (codes "yes\n") (codes "no\n") (λ rest. refl))
+    pair (flag_is (codes "yes\n") (codes "no\n") (λ rest. refl))
     (pair (worded (codes "goal ") fact_field)
     (pair (worded (codes "snapshot ") (number_is 10 refl))
     (pair (perhaps (codes "no zookie\n") (codes "zookie ") (λ rest. refl) zookie_field)
-    (perhaps (codes "no version\n") (codes "version ") (λ rest. refl) text_is)))))
+    (perhaps (codes "no version\n") (codes "version ") (λ rest. refl) text_is))))
 
 check_fits : (kind : CheckKind) (p : CheckFields) → CheckFits p → IsCheck (check_of kind p)
-check_fits kind p h = record { goal = h.1.1.0; snapshot = h.1.1.1.0; zookie = h.1.1.1.1.0; version = h.1.1.1.1.1 }
+check_fits kind p h = record { goal = h.1.0; snapshot = h.1.1.0; zookie = h.1.1.1.0; version = h.1.1.1.1 }
 
 abbrev fields_of : CheckValue → CheckFields
-fields_of e = (e.is_open, (e.reply, (e.goal, (e.snapshot, (e.zookie, e.version)))))
+fields_of e = (e.reply, (e.goal, (e.snapshot, (e.zookie, e.version))))
 
 fits_check : (e : CheckValue) → IsCheck e → CheckFits (fields_of e)
-fits_check e h = (tt, (tt, (h.goal, (h.snapshot, (h.zookie, h.version)))))
+fits_check e h = (tt, (h.goal, (h.snapshot, (h.zookie, h.version))))
 
 abbrev CommitFits : CommitFields → Type 0
 CommitFits p = (p.0 < 2 ^ 64) × (((length p.1.0 < 2 ^ 64) × AllByRecursion IsTuple p.1.0) × ((length p.1.1 < 2 ^ 64) × AllByRecursion IsTuple p.1.1))

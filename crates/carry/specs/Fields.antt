@@ -41,7 +41,8 @@ number_to end text =
 unfoldable pub text_at : Reader (List ℕ)
 text_at text = do
   n ← number_to 32 text
-  if nat_lt n.0 (length n.1) && (slice_index n.1 n.0 == 10) then Ok (take n.0 n.1, drop (n.0 + 1) n.1) else Err (Left (length text))
+  if nat_lt n.0 (length n.1) && (slice_index n.1 n.0 == 10) then Ok (take n.0 n.1, drop (n.0 + 1) n.1)
+      else Err (Left (length text))
 
 -- what the text of a line spells
 abbrev pub of_text : {A : Type 0} → (List ℕ → Option A) → Reader A
@@ -68,7 +69,8 @@ flag_text first second true = first
 flag_text first second false = second
 
 abbrev pub flag_at : List ℕ → List ℕ → Reader Bool
-flag_at first second text = word_or (word_at first text) (λ rest. Ok (true, rest)) (after_word second text >>= λ rest. Ok (false, rest))
+flag_at first second text =
+    word_or (word_at first text) (λ rest. Ok (true, rest)) (after_word second text >>= λ rest. Ok (false, rest))
 
 -- one word where nothing is there, and another in front of what is
 abbrev pub optional_text : {A : Type 0} → List ℕ → List ℕ → (A → List ℕ) → Option A → List ℕ
@@ -76,7 +78,8 @@ optional_text none word write None = none
 optional_text none word write (Some a) = word ++ write a
 
 abbrev pub optional_at : {A : Type 0} → List ℕ → List ℕ → Reader A → Reader (Option A)
-optional_at none word read text = word_or (word_at none text) (λ rest. Ok (None, rest)) (behind word read text >>= λ a. Ok (Some a.0, a.1))
+optional_at none word read text =
+    word_or (word_at none text) (λ rest. Ok (None, rest)) (behind word read text >>= λ a. Ok (Some a.0, a.1))
 
 -- one value, and then another
 abbrev pub both : {A B : Type 0} → Reader A → Reader B → Reader (A × B)

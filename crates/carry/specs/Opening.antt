@@ -22,12 +22,16 @@ unsealed_at body line =
     if may_be_seal line then (if bytes_eq line (seal (first_line ++ body)) then Ok body else Err Changed) else Err Cut
 
 unfoldable pub behind_first : List ℕ → Result (List ℕ) CarryFault
-behind_first rest = if nat_lt (length rest) 72 then Err Cut else unsealed_at (take (length rest - 72) rest) (drop (length rest - 72) rest)
+behind_first rest =
+    if nat_lt (length rest) 72 then Err Cut
+    else unsealed_at (take (length rest - 72) rest) (drop (length rest - 72) rest)
 
 -- What stands between the first line and the seal. Bytes that end within the first line are cut, and bytes that begin
 -- otherwise are foreign.
 unfoldable pub opened : List ℕ → Result (List ℕ) CarryFault
-opened bytes = word_or (word_at first_line bytes) behind_first (if starts_with nat_eq first_line bytes then Err Cut else Err Foreign)
+opened bytes =
+    word_or (word_at first_line bytes) behind_first
+    (if starts_with nat_eq first_line bytes then Err Cut else Err Foreign)
 
 -- the same, as a text
 unfoldable pub text_in : List ℕ → Result (List ℕ) CarryFault

@@ -40,19 +40,25 @@ zookie_line_at text = of_text zookie_in text
 -- ---- an entry
 
 abbrev pub CheckFields : Type 0
-CheckFields = Bool × (Bool × (FactValue × (ℕ × (Option Token × Option (List ℕ)))))
+CheckFields = Bool × (FactValue × (ℕ × (Option Token × Option (List ℕ))))
 
 abbrev pub check_of : CheckKind → CheckFields → CheckValue
-check_of kind p = record { kind = kind; is_open = p.0; reply = p.1.0; goal = p.1.1.0; snapshot = p.1.1.1.0; zookie = p.1.1.1.1.0; version = p.1.1.1.1.1 }
+check_of kind p = record {
+  kind = kind;
+  reply = p.0;
+  goal = p.1.0;
+  snapshot = p.1.1.0;
+  zookie = p.1.1.1.0;
+  version = p.1.1.1.1;
+}
 
 unfoldable pub check_fields_at : Reader CheckFields
 check_fields_at text =
-    both (flag_at (codes "open\n") (codes "kept\n"))
-    (both (flag_at (codes "yes\n") (codes "no\n"))
+    both (flag_at (codes "yes\n") (codes "no\n"))
     (both (behind (codes "goal ") fact_line_at)
     (both (behind (codes "snapshot ") (number_to 10))
     (both (optional_at (codes "no zookie\n") (codes "zookie ") zookie_line_at)
-    (optional_at (codes "no version\n") (codes "version ") text_at))))) text
+    (optional_at (codes "no version\n") (codes "version ") text_at)))) text
 
 -- ---- a commit
 

@@ -21,15 +21,14 @@ fact_line f = text_line (fact_text f)
 abbrev pub zookie_line : Token → List ℕ
 zookie_line z = text_line (token_text z)
 
--- `open` or `kept`, `yes` or `no`, and a line for each of the goal, the snapshot, the zookie and the version
+-- `yes` or `no`, and a line for each of the goal, the snapshot, the zookie and the version
 abbrev pub check_text : CheckValue → List ℕ
 check_text e =
-    flag_text (codes "open\n") (codes "kept\n") e.is_open
-    ++ (flag_text (codes "yes\n") (codes "no\n") e.reply
+    flag_text (codes "yes\n") (codes "no\n") e.reply
     ++ ((codes "goal " ++ fact_line e.goal)
     ++ ((codes "snapshot " ++ number_line e.snapshot)
     ++ (optional_text (codes "no zookie\n") (codes "zookie ") zookie_line e.zookie
-    ++ optional_text (codes "no version\n") (codes "version ") text_line e.version))))
+    ++ optional_text (codes "no version\n") (codes "version ") text_line e.version)))
 
 -- the timestamp, and the tuples added and removed, each on a line
 abbrev pub commit_text : Commit → List ℕ

@@ -13,10 +13,9 @@ use Rattle.carry.specs.declared.value.Item.{Item}
 use Rattle.carry.specs.declared.value.Said.{Said}
 use Rattle.carry.specs.declared.value.Said.TheVariants.{Declares, Commits, Records}
 
--- an entry: what it records, whether it is still to be judged, and what was asked and answered
+-- an entry: what it records, and what was asked and answered
 pub record CheckValue : Type 0 where
   pub kind : CheckKind
-  pub is_open : Bool
   pub reply : Bool
   pub goal : FactValue
   pub snapshot : ℕ
@@ -44,7 +43,6 @@ pub record CarryValue : Type 0 where
 abbrev pub check_value : CarriedCheck → CheckValue
 check_value e = record {
   kind = e.kind;
-  is_open = e.is_open;
   reply = e.reply;
   goal = fact_value e.goal;
   snapshot = e.snapshot;
@@ -67,4 +65,9 @@ abbrev pub item_values : List Item → List ItemValue
 item_values is = map item_value is
 
 abbrev pub carry_value : Carry → CarryValue
-carry_value c = record { lines = c.lines; base = c.base; before = option_map (λ s. s.now) c.before; items = item_values c.items.items }
+carry_value c = record {
+  lines = c.lines;
+  base = c.base;
+  before = option_map (λ s. s.now) c.before;
+  items = item_values c.items.items;
+}

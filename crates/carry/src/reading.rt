@@ -132,8 +132,7 @@ pub(crate) fn perhaps_text<'a>(
 fn check_at(kind: CheckKind, text: &str) -> Result<(CarriedCheck<'_>, &str), FieldFault>
     ensures { Tells (λ x. (check_value x.0, x.1.now)) result (seen (check_of kind) check_fields_at text.now) }
 {
-    let (is_open, rest) = flag_at(text, "open\n", "kept\n")?;
-    let (reply, rest) = flag_at(rest, "yes\n", "no\n")?;
+    let (reply, rest) = flag_at(text, "yes\n", "no\n")?;
     let rest = after_word(rest, "goal ")?;
     let (goal, rest) = fact_at(rest)?;
     let (snapshot, rest) = number_behind(rest, "snapshot ")?;
@@ -144,7 +143,6 @@ fn check_at(kind: CheckKind, text: &str) -> Result<(CarriedCheck<'_>, &str), Fie
     let (version, rest) = perhaps_text(rest, "no version\n", "version ")?;
     let check = CarriedCheck {
         kind,
-        is_open,
         reply,
         goal,
         snapshot,

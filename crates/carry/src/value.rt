@@ -10,12 +10,10 @@ pub enum CheckKind {
     Content,
 }
 
-/// An entry that goes on to the next run.
+/// An entry that goes on to the next run: it is still to be judged, or its version may be named.
 #[derive(Clone, Copy, Debug)]
 pub struct CarriedCheck<'a> {
     pub kind: CheckKind,
-    /// Whether it is still to be judged. One that is not is kept since its version may be named.
-    pub is_open: bool,
     pub reply: bool,
     pub goal: FactRef<'a>,
     /// The timestamp at which it was evaluated.

@@ -143,7 +143,6 @@ fn push_check(check: &CarriedCheck<'_>, out: &mut String) -> Result<(), AllocErr
     ensures text { OnOk result (string_bytes out.new ≡ string_bytes out.old ++ check_text (check_value check.now)) }
     ensures form { OnOk result (IsCheck (check_value check.now)) }
 {
-    push_flag(check.is_open, "open\n", "kept\n", out)?;
     push_flag(check.reply, "yes\n", "no\n", out)?;
     out.push_str("goal ")?;
     push_fact(check.goal, out)?;

@@ -1,10 +1,11 @@
 //! Borrowed tuples.
 
-ghost use Rattle.std.specs.Prelude.{◌≡◌, IfOk};
-ghost use Rattle.tuple_text.specs.Grammar.{IsHead, IsUser};
+ghost use Rattle.std.specs.Prelude.{◌≡◌, ⊥, IfOk, MatchOption};
+ghost use Rattle.tuple_text.specs.Grammar.{IsHead, IsTuple, IsUser};
 ghost use Rattle.tuple_text.specs.Refs.{set_value, user_value};
 
-use crate::sets::SetRef;
+use crate::forms::{is_name, is_user_relation};
+use crate::sets::{SetRef, check_parts};
 use crate::tuples::Tuple;
 use crate::users::UserRef;
 use std::alloc::{AllocError, Global};
@@ -29,6 +30,25 @@ impl<'a> TupleRef<'a> {
         ensures { tuple_value result ≡ tuple_of (set_value set.entry) (user_value user.entry) }
     {
         TupleRef { set, user }
+    }
+
+    /// The tuple of these parts, or `None` where one is not in form.
+    pub fn of(set: SetRef<'a>, user: UserRef<'a>) -> Option<TupleRef<'a>>
+        ensures { MatchOption result (IsTuple (tuple_of (set_value set.entry) (user_value user.entry)) → ⊥)
+            (λ t. tuple_value t ≡ tuple_of (set_value set.entry) (user_value user.entry)) }
+    {
+        if check_parts(set, is_name(set.relation)).is_err() {
+            return None;
+        }
+        match user {
+            UserRef::Id(_) => Some(TupleRef::from_parts(set, user)),
+            UserRef::Set(members) => {
+                if check_parts(members, is_user_relation(members.relation)).is_err() {
+                    return None;
+                }
+                Some(TupleRef::from_parts(set, user))
+            }
+        }
     }
 
     /// The userset that the user is in.

@@ -156,7 +156,7 @@ above_later : (b a : ℕ) (cs : List Commit) → b < a → AllByRecursion (IsAbo
 above_later b a [] lt h = tt
 above_later b a (c ∷ cs) lt h = let first = h.0 in (omega (arith, lt, first), above_later b a cs lt h.1)
 
-cut : (b : ℕ) (cs : List Commit) → AreOrdered cs → up_to b cs ++ above b cs ≡ cs
+pub cut : (b : ℕ) (cs : List Commit) → AreOrdered cs → up_to b cs ++ above b cs ≡ cs
 cut b [] h = refl
 cut b (c ∷ cs) h = by_test (cut b cs h.1) (leb c.at b) refl
   where
