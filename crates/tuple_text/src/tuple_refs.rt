@@ -1,6 +1,6 @@
 //! Borrowed tuples.
 
-ghost use Rattle.std.specs.Prelude.{◌≡◌, ⊥, IfOk, MatchOption};
+ghost use Rattle.std.specs.Prelude.{◌≡◌, IfOk, MatchOption};
 ghost use Rattle.tuple_text.specs.Grammar.{IsHead, IsTuple, IsUser};
 ghost use Rattle.tuple_text.specs.Refs.{set_value, user_value};
 
