@@ -149,7 +149,8 @@ fn push_check(check: &CarriedCheck<'_>, out: &mut String) -> Result<(), AllocErr
     out.push_str("snapshot ")?;
     push_number(check.snapshot, out)?;
     push_perhaps_zookie(check.zookie, out)?;
-    push_perhaps_text(check.version, "no version\n", "version ", out)
+    push_perhaps_text(check.version, "no version\n", "version ", out)?;
+    Ok(())
 }
 
 /// Appends tuples, behind their count.

@@ -26,7 +26,7 @@ use Rattle.carry_laws.specs.Carried.{GoesOnAlike, StandsIn, has_commit_at, lines
 use Rattle.carry_laws.proofs.ReachLemmas.{any_weaker}
 use Rattle.carry_laws.proofs.StandInLemmas.{kept_all, weaker}
 
-all_lines : (ls : List ℕ) (cs : List Commit) → length ls ≡ length cs → lines_of (on_lines ls cs) ≡ ls
+pub all_lines : (ls : List ℕ) (cs : List Commit) → length ls ≡ length cs → lines_of (on_lines ls cs) ≡ ls
 all_lines [] cs e = refl
 all_lines (l ∷ ls) [] e = absurd (omega (arith, e))
 all_lines (l ∷ ls) (c ∷ cs) e = ap (λ (ms : List ℕ). l ∷ ms) (all_lines ls cs (omega (arith, e)))

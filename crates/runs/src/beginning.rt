@@ -76,8 +76,8 @@ fn put_item(
 
 /// The log that a carry begins: its items, each on its line in the whole log.
 ///
-/// Refusals, of the first item that is refused: `OutOfOrder` where its line is not behind that of the item before it, or
-/// behind the lines that the carry counts; `Refused` where what it says does not fit the items before it, for the cause
+/// Refusals, of the first item that is refused: `OutOfOrder` where its line is not behind that of the item before it,
+/// or behind the lines that the carry counts; `Refused` where what it says does not fit the items before it, for the cause
 /// that a line of a trace would be refused for. OutOfMemory comes where memory was refused, whatever else applies.
 pub fn begin(alloc: Global, carry: &Carry<'_>) -> Result<TraceBuilder, BeginFault>
     ensures { Gives (λ log. log) result (log_of (carry_value carry.now)) }
