@@ -4,7 +4,8 @@ use Rattle.std.specs.Prelude.{option_and_then, nat_lt, nat_le}
 use Rattle.std.specs.Result.{result_ok}
 use Rattle.serde_json.specs.Data.{Data}
 use Rattle.serde_json.specs.Read.{read}
-use Rattle.version_chains.specs.Commits.{Commit}
+use Rattle.version_chains.specs.Appends.{append_fault}
+use Rattle.version_chains.specs.Commits.{Commit, added}
 use Rattle.namespaces.specs.Adding.{rules_add}
 use Rattle.namespaces.specs.Changing.{rules_change}
 use Rattle.namespaces.specs.Declaration.{Declaration}
@@ -15,14 +16,14 @@ use Rattle.json_lines.specs.Json.{of_json}
 use Rattle.trace_lines.specs.Causes.{namespace_cause}
 use Rattle.trace_lines.specs.LineValues.{put_line, placed_at}
 use Rattle.trace_lines.specs.LineValues as line
-use Rattle.trace_lines.specs.Traces.{are_declared, change_line, changes_of, commit_checked, declaration_line, declared_from, is_begun, is_declared, late_or, namespace_line, recorded, rules_checked, with_commit, with_entry, with_namespace, with_touches}
+use Rattle.trace_lines.specs.Traces.{append_cause, are_declared, change_line, changes_of, commit_checked, declaration_line, declared_from, empty_commit, is_begun, is_declared, late_or, namespace_line, recorded, rules_checked, tuples_checked, with_commit, with_entry, with_namespace, with_touches}
 use Rattle.trace_lines.specs.Values.{EntryValue, TraceValue, empty_trace}
 use Rattle.trace_lines.specs.Versions.{is_repeated}
 use Rattle.trace_lines.specs.declared.cause.Cause.{Cause}
 use Rattle.trace_lines.specs.declared.cause.Cause.TheVariants as causes
 use Rattle.carry.specs.Values.{CarryValue, ItemValue, SaidValue, declares, commits, records}
 use Rattle.runs.specs.Begins.{line_of, log_from, log_of, with_item}
-use Rattle.runs.specs.Declared.{declared_by, declared_in, rules_from, rules_said, with_declared}
+use Rattle.runs.specs.DeclaredTexts.{declared_by, declared_in, rules_from, rules_said, with_declared}
 use Rattle.runs.specs.Faults.{refused_at}
 use Rattle.runs.specs.declared.fault.BeginFault.{BeginFault}
 use Rattle.runs.specs.declared.fault.BeginFault.TheVariants.{OutOfOrder}
@@ -55,17 +56,22 @@ namespace_said t u d h =
     let whole : record t { declarations = one.0 } ≡ u = (let e = one.2 in cc) in
     ap result_ok made ∙ ap Some (same ∙ ap (λ (v : TraceValue). v.declarations) whole)
 
+passed : {A B C E : Type 0} (p : Result A E) (q : Result B E) (r : Result C E) (v u : TraceValue)
+    → (p >>= λ a. q >>= λ b. r >>= λ c. Ok v) ≡ Ok u → v ≡ u
+passed (Ok a) (Ok b) (Ok c) v u h = cc
+passed (Ok a) (Ok b) (Err e) v u h = cc
+passed (Ok a) (Err e) r v u h = cc
+passed (Err e) q r v u h = cc
+
 change_said : (at n : ℕ) (t u : TraceValue) (d : Data) → change_line at n t d ≡ Ok u
     → result_ok (rules_change t.declarations at d) ≡ Some u.declarations
 unfolding change_line
 change_said at n t u d h =
     let one = step (namespace_cause (rules_change t.declarations at d)) _ u h in
-    let two = step (rules_checked one.0) _ u one.2 in
-    let three = step _ _ u two.2 in
-    let four = step _ _ u three.2 in
     let made = cause_ok (rules_change t.declarations at d) one.0 one.1 in
-    let declared : one.0 ≡ u.declarations = (let e = four.2 in cc) in
-    ap result_ok made ∙ ap Some declared
+    let whole = passed (rules_checked one.0) (append_cause (append_fault (changes_of t) at [] []))
+    (tuples_checked one.0 (added t.commits)) (record (with_touches n t (empty_commit at)) { declarations = one.0 }) u one.2 in
+    ap result_ok made ∙ ap (λ (v : TraceValue). Some v.declarations) whole
 
 pub declaration_said : (n : ℕ) (t u : TraceValue) (d : Data) → declaration_line n t d ≡ Ok u
     → rules_said t.declarations d ≡ Some u.declarations
@@ -145,10 +151,12 @@ log_said lines k last t x (i ∷ is) h =
     goes_on_from i.line t first.0 i.said (declared_in is) x.declarations (put lines k last t first.0 i first.1)
     (log_said lines (k + 1) i.line first.0 x is first.2)
 
--- A log that a carry begins has the declarations of the texts in it.
+-- The texts in a carry make the declarations of the log that it begins.
+pub begun_texts : (c : CarryValue) (x : TraceValue) → log_of c ≡ Ok x → declared_by [] (declared_in c.items) ≡ Some x.declarations
+begun_texts c x begun = log_said c.lines 0 0 empty_trace x c.items begun
+
 pub begun_declares : (c : CarryValue) (x : TraceValue) (ds : List Declaration) → log_of c ≡ Ok x
     → declared_by [] (declared_in c.items) ≡ Some ds → x.declarations ≡ ds
 begun_declares c x ds begun made =
-    let said = log_said c.lines 0 0 empty_trace x c.items begun in
-    let same : Some x.declarations ≡ Some ds = sym said ∙ made in
+    let same : Some x.declarations ≡ Some ds = sym (begun_texts c x begun) ∙ made in
     cc

@@ -19,7 +19,7 @@ use Rattle.trace_lines.specs.declared.cause.Cause.TheVariants as causes
 use Rattle.trace_lines.specs.declared.entry.EntryKind.{EntryKind}
 use Rattle.trace_lines.specs.declared.entry.EntryKind.TheVariants.{Check, Content}
 use Rattle.trace_lines.proofs.Declared.{addition_made, change_made}
-use Rattle.runs.specs.Declared.{declared_by, rules_from, rules_said}
+use Rattle.runs.specs.DeclaredTexts.{declared_by, rules_from, rules_said}
 use Rattle.runs.proofs.DeclaredLemmas.{commit_keeps, declaration_said, entry_keeps, step}
 
 -- ---- a line declares, or what was declared stays
@@ -35,11 +35,11 @@ commit_line_keeps n t u d h =
     let made = step (commit_of d) (with_commit n t) u h in
     commit_keeps n t u made.0 made.2
 
-IsSaid : TraceValue → TraceValue → Data → Type 0
+abbrev IsSaid : TraceValue → TraceValue → Data → Type 0
 IsSaid t u d = (rules_said t.declarations d ≡ Some u.declarations) ⊎ (t.declarations ≡ u.declarations)
 
 value_said : (n : ℕ) (t u : TraceValue) (d : Data) → value_line n t d ≡ Ok u → IsSaid t u d
-unfolding value_line, IsSaid
+unfolding value_line
 value_said n t u d h = by_kind (option_and_then as_str (get (codes "kind") d)) h
   where
     by_kind : (o : Option (List ℕ)) → of_kind n t d o ≡ Ok u
@@ -88,12 +88,15 @@ declared_more ds [] text es h =
     whole : (o : Option (List Declaration)) → option_and_then (λ fs. Some fs) o ≡ o
     whole None = refl
     whole (Some fs) = refl
-declared_more ds (first ∷ texts) text es h = by_first (option_and_then (rules_said ds) (read first)) h
+declared_more ds (first ∷ texts) text es h =
+    by_first (λ fs. declared_more fs texts text es) (option_and_then (rules_said ds) (read first)) h
   where
-    by_first : (o : Option (List Declaration)) → option_and_then (λ fs. declared_by fs texts) o ≡ Some es
+    by_first : ((fs : List Declaration) → declared_by fs texts ≡ Some es
+        → declared_by fs (texts ++ text ∷ []) ≡ option_and_then (rules_said es) (read text))
+        → (o : Option (List Declaration)) → option_and_then (λ fs. declared_by fs texts) o ≡ Some es
         → option_and_then (λ fs. declared_by fs (texts ++ text ∷ [])) o ≡ option_and_then (rules_said es) (read text)
-    by_first None h = cc
-    by_first (Some fs) h = declared_more fs texts text es h
+    by_first rest None h = cc
+    by_first rest (Some fs) h = rest fs h
 
 -- ---- what is kept
 
@@ -108,7 +111,6 @@ module _ (n : ℕ) (t u : TraceValue) (text : List ℕ) (texts : List (List ℕ)
       by_read (Some d) h = (d, refl, value_said n t u d h)
 
   pub kept_longer : length t.declarations < length u.declarations → declared_by [] (texts ++ text ∷ []) ≡ Some u.declarations
-  unfolding IsSaid
   kept_longer lt = elim said.2 [
     | inl declared ↦
         declared_more [] texts text t.declarations before
@@ -118,7 +120,6 @@ module _ (n : ℕ) (t u : TraceValue) (text : List ℕ) (texts : List (List ℕ)
   ]
 
   pub kept_as_long : length u.declarations ≤ length t.declarations → declared_by [] texts ≡ Some u.declarations
-  unfolding IsSaid
   kept_as_long le = elim said.2 [
     | inl declared ↦ let long = grown t.declarations u.declarations said.0 declared in absurd (omega (arith, le, long))
     | inr same ↦ before ∙ ap Some same

@@ -6,7 +6,7 @@ use Rattle.std.specs.List.Sorted.{IsStrictlyIncreasing}
 use Rattle.std.proofs.Math.Bool.{or-true}
 use Rattle.std.proofs.lemmas.Bool.{cases_lt, eq-eqb, eqb-true, le-leb, le-ltb, lt-leb, lt-ltb, leb-true, leb-false, ltb-false}
 use Rattle.std.proofs.lemmas.List.{get_or-map, length-map, map-append}
-use Rattle.std.proofs.lemmas.List.Elements.{All-from_recursion, recursion_from_All}
+use Rattle.std.proofs.lemmas.List.Elements.{All-filter, All-from_recursion, recursion_from_All}
 use Rattle.std.proofs.lemmas.List.Kept.{AllPairs-from_increasing}
 use Rattle.std.proofs.lemmas.Option.{get_or_from_slice_get, slice_get_within}
 use Rattle.tuple_text.specs.Sets.{SetValue}
@@ -25,11 +25,10 @@ use Rattle.windows.proofs.CompactionLemmas.{AreOrdered, IsAbove, IsUpTo, all_abo
 use Rattle.windows.proofs.CutLemmas.{lines_of}
 use Rattle.windows.proofs.GrownLemmas.{same_store}
 use Rattle.windows.proofs.NearestLemmas.{AreInTime, lines_in_time}
-use Rattle.windows.proofs.Rising.{AreInOrder, order_kept}
 use Rattle.carry_laws.specs.Carried.{Keeps, StandsIn, has_commit_at, lines_above, placeless}
 use Rattle.carry_laws.proofs.OnwardLemmas.{all_lines}
 use Rattle.carry_laws.proofs.StandInLemmas.{weaker}
-use Rattle.runs.specs.Alike.{commits_above, goes_on, is_above, is_open, issues_some, last_time, touches_above}
+use Rattle.runs.specs.Alike.{IsCommitLine, commits_above, goes_on, is_above, is_open, issues_some, last_time, touches_above}
 use Rattle.runs.proofs.CommitLemmas.{above_log, touches_tell_all}
 
 -- ---- commits by their lines
@@ -162,6 +161,20 @@ module _ (cs : List CommitLine) (lines : IsStrictlyIncreasing (lines_of cs)) (ti
         ]
       ]
 
+-- ---- commits above a timestamp
+
+above_ordered : (b : ℕ) (cs : List Commit) → AreOrdered cs → AreOrdered (above b cs)
+above_ordered b [] h = tt
+above_ordered b (c ∷ cs) h = by_test (above_ordered b cs h.1) (ltb b c.at)
+  where
+    by_test : AreOrdered (above b cs) → (x : Bool) → AreOrdered (cond x (c ∷ above b cs) (above b cs))
+    by_test rest true = (
+      recursion_from_All (IsAbove c.at) (above b cs)
+          (All-filter (λ (d : Commit). ltb b d.at) (IsAbove c.at) cs (All-from_recursion (IsAbove c.at) cs h.0)),
+      rest,
+    )
+    by_test rest false = rest
+
 -- ---- the commit at the base
 
 any_at : (at : ℕ) (cs : List Commit) (k x : ℕ) → slice_get (map (λ (c : Commit). c.at) cs) k ≡ Some x → at ≤ x
@@ -236,11 +249,9 @@ issuer_goes_on t v e issued =
 -- what was compared of two logs with the same declarations: where the commit at the base stands, and that both store
 -- the same there, go on alike, and that the entries of one are those of the other that go on
 pub record AreAlikeFrom (b line : ℕ) (t x : TraceValue) : Type 0 where
-  pub there : ℕ
-  pub at_base : slice_get (commit_lines_of t) there ≡ Some (record { line = line; at = b })
+  pub at_base : IsCommitLine t line b
   pub front : ℕ
-  pub front_there : ℕ
-  pub front_at_base : slice_get (commit_lines_of x) front_there ≡ Some (record { line = front; at = b })
+  pub front_at_base : IsCommitLine x front b
   pub in_front : front ≤ line
   pub stored : (s : TupleValue) → is_stored t.commits b s ≡ true → is_stored x.commits b s ≡ true
   pub no_more : (s : TupleValue) → is_stored x.commits b s ≡ true → is_stored t.commits b s ≡ true
@@ -256,14 +267,13 @@ module _ (b line : ℕ) (t x : TraceValue) (tp : HasPlacedCommits t) (xp : HasPl
   x_order : AreOrdered x.commits
   x_order = ordered x.commits xp.timestamps
 
-  front_commits : List Commit
+  abbrev front_commits : List Commit
   front_commits = up_to b x.commits
 
   same_above : above b t.commits ≡ above b x.commits
   same_above =
       touches_tell_all (above b t.commits) (above b x.commits)
-      (order_kept (λ (c : Commit). c.at) (λ c. ltb b c.at) t.commits t_order)
-      (order_kept (λ (c : Commit). c.at) (λ c. ltb b c.at) x.commits x_order)
+      (above_ordered b t.commits t_order) (above_ordered b x.commits x_order)
       (sym (times_above b t.commit_lines t.commits tp.counted) ∙ ap times_of h.on_lines
       ∙ times_above b x.commit_lines x.commits xp.counted)
       (sym (above_log b t.commits) ∙ h.touched ∙ above_log b x.commits)
@@ -287,12 +297,12 @@ module _ (b line : ℕ) (t x : TraceValue) (tp : HasPlacedCommits t) (xp : HasPl
 
   up_to_line : All (λ (c : CommitLine). c.at ≤ b → c.line ≤ line) (commit_lines_of t)
   up_to_line =
-      lines_up_to (commit_lines_of t) (rising_lines t tp) (rising_times t tp) h.there (record { line = line; at = b }) h.at_base
+      lines_up_to (commit_lines_of t) (rising_lines t tp) (rising_times t tp) h.at_base.0 (record { line = line; at = b }) h.at_base.1
 
   front_up_to : All (λ (c : CommitLine). c.at ≤ b → c.line ≤ h.front) (commit_lines_of x)
   front_up_to =
-      lines_up_to (commit_lines_of x) (rising_lines x xp) (rising_times x xp) h.front_there
-      (record { line = h.front; at = b }) h.front_at_base
+      lines_up_to (commit_lines_of x) (rising_lines x xp) (rising_times x xp) h.front_at_base.0
+      (record { line = h.front; at = b }) h.front_at_base.1
 
   keeps : Keeps (line + 1) t (goes_on t)
   keeps = record {
@@ -323,9 +333,9 @@ module _ (b line : ℕ) (t x : TraceValue) (tp : HasPlacedCommits t) (xp : HasPl
           (all_filtered (λ (c : Commit). leb c.at b) (IsUpTo b) (λ c is. leb-true c.at b is) x.commits);
       stored = same_store_there;
     };
-    base = there_at t.commit_lines t.commits h.there (record { line = line; at = b }) h.at_base;
+    base = there_at t.commit_lines t.commits h.at_base.0 (record { line = line; at = b }) h.at_base.1;
     base_there = any_up_to b x.commits
-        (there_at x.commit_lines x.commits h.front_there (record { line = h.front; at = b }) h.front_at_base);
+        (there_at x.commit_lines x.commits h.front_at_base.0 (record { line = h.front; at = b }) h.front_at_base.1);
     counted = front_counted b x.commit_lines x.commits xp.counted;
     in_front = All-from_recursion (λ (l : ℕ). l < line + 1) (lines_of (front_of b (commit_lines_of x)))
         (front_lines_up_to b line (commit_lines_of x)
@@ -334,7 +344,7 @@ module _ (b line : ℕ) (t x : TraceValue) (tp : HasPlacedCommits t) (xp : HasPl
         (recursion_from_All (λ (c : CommitLine). c.at ≤ b → c.line ≤ h.front) (commit_lines_of x) front_up_to)));
     folded = λ i c lt le. let up = up_to_line i c lt le in omega (arith, up);
     behind = λ i c lt up.
-        lines_behind (commit_lines_of t) (rising_lines t tp) (rising_times t tp) h.there (record { line = line; at = b })
-        h.at_base i c lt up;
+        lines_behind (commit_lines_of t) (rising_lines t tp) (rising_times t tp) h.at_base.0 (record { line = line; at = b })
+        h.at_base.1 i c lt up;
     keeps = keeps;
   }

@@ -1,5 +1,5 @@
 -- Two lists that are gone over side by side.
-use Rattle.std.proofs.Common.{◌≡◌, ℕ, zero, suc, ◌+◌, Bool, true, false, cond, List, [], ◌∷◌, length, drop, Option, Some, None, refl, sym, ◌∙◌, ap}
+use Rattle.std.proofs.Common.{◌≡◌, ℕ, zero, suc, ◌+◌, ◌<◌, Bool, true, false, cond, List, [], ◌∷◌, length, map, drop, Option, Some, None, refl, sym, ◌∙◌, ap, arith}
 use Rattle.std.specs.Prelude.{filter, slice_get}
 use Rattle.std.proofs.lemmas.List.{drop_more}
 use Rattle.std.proofs.lemmas.Option.{get_or_from_slice_get, slice_get_within}
@@ -38,3 +38,17 @@ alike_at {X} q xs ys i j x y at there same rest =
         ≡ cond b (x ∷ filter q (drop (j + 1) ys)) (filter q (drop (j + 1) ys))
     by_test true = ap (λ (zs : List X). x ∷ zs) rest
     by_test false = rest
+
+-- an item that the test keeps, and one that looks like it
+pub mapped_at : {X Y : Type 0} (q : X → Bool) (f : X → Y) (xs ys : List X) (i j : ℕ) (x y : X) → slice_get xs i ≡ Some x
+    → slice_get ys j ≡ Some y → q x ≡ true → f x ≡ f y
+    → map f (filter q (drop (i + 1) xs)) ≡ map f (drop (j + 1) ys) → map f (filter q (drop i xs)) ≡ map f (drop j ys)
+mapped_at {X} {Y} q f xs ys i j x y at there passes same rest =
+    ap (map f) (kept_at q xs i x at passes) ∙ ap (λ (zs : List Y). f x ∷ zs) rest
+    ∙ ap (λ (z : Y). z ∷ map f (drop (j + 1) ys)) same ∙ sym (ap (map f) (drop_at ys j y there))
+
+-- something stands at each place
+pub there_is : {X : Type 0} (xs : List X) (i : ℕ) → i < length xs → (x : X) × (slice_get xs i ≡ Some x)
+there_is [] i lt = absurd (omega (arith, lt))
+there_is (x ∷ xs) zero lt = (x, refl)
+there_is (x ∷ xs) (suc i) lt = there_is xs i (omega (arith, lt))

@@ -1,12 +1,11 @@
 -- What of a log goes on to the next run, and when two touches are the same.
-use Rattle.std.specs.Prelude.{ℕ, ◌-◌, ◌&&◌, ◌||◌, Bool, true, false, List, length, map, filter, nat_eq, nat_lt, is_some, slice_get, Option, None, Some}
-use Rattle.std.specs.Prelude.{if◌then◌else◌, not}
+use Rattle.std.specs.Prelude.{◌≡◌, ℕ, ◌-◌, ◌&&◌, ◌||◌, Bool, true, false, not, List, length, map, filter, nat_eq, nat_lt, is_some, slice_get, Option, None, Some}
 use Rattle.tuple_text.specs.Order.{tuple_eq}
 use Rattle.version_chains.specs.Commits.{Touch}
 use Rattle.trace_lines.specs.Values.{EntryValue, TraceValue}
 use Rattle.trace_lines.specs.declared.entry.EntryKind.{EntryKind}
 use Rattle.trace_lines.specs.declared.entry.EntryKind.TheVariants.{Check, Content}
-use Rattle.token_order.specs.Order.{CommitLine}
+use Rattle.token_order.specs.Order.{CommitLine, commit_lines_of}
 
 -- the touches above a timestamp
 abbrev pub touches_above : ℕ → List Touch → List Touch
@@ -15,6 +14,10 @@ touches_above b xs = filter (λ x. nat_lt b x.at) xs
 -- the commits above a timestamp, by their lines
 abbrev pub commits_above : ℕ → List CommitLine → List CommitLine
 commits_above b cs = filter (λ c. nat_lt b c.at) cs
+
+-- there is a commit at the timestamp, on this line
+abbrev pub IsCommitLine : TraceValue → ℕ → ℕ → Type 0
+IsCommitLine t line at = (k : ℕ) × (slice_get (commit_lines_of t) k ≡ Some (record { line = line; at = at }))
 
 -- the same flag
 abbrev pub flag_eq : Bool → Bool → Bool

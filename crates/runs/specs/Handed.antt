@@ -4,7 +4,7 @@ use Rattle.trace_lines.specs.Values.{TraceValue}
 use Rattle.carry.specs.Values.{CarryValue}
 use Rattle.carry_laws.specs.Carried.{StandsIn}
 use Rattle.runs.specs.Begins.{log_of}
-use Rattle.runs.specs.Declared.{declared_by}
+use Rattle.runs.specs.DeclaredTexts.{declared_by}
 
 -- What the carry begins stands in for the log, from a line on that is behind no further one.
 pub record IsCarryOf (t : TraceValue) (c : CarryValue) : Type 0 where

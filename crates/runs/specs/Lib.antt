@@ -1,6 +1,6 @@
 pub mod Alike
 pub mod Begins
-pub mod Declared
+pub mod DeclaredTexts
 pub mod Faults
 pub mod Handed
 pub mod Making

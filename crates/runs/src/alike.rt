@@ -1,6 +1,6 @@
 //! Whether two logs say the same from a timestamp on, and store the same there.
 
-ghost use Rattle.std.specs.Prelude.{◌≡◌, ◌∷◌, ◌≤◌, ℕ, [], true, length, drop, filter, map, slice_get, Some, IfSome, option_map};
+ghost use Rattle.std.specs.Prelude.{◌≡◌, ◌∷◌, ◌≤◌, ◌<◌, ℕ, [], true, length, drop, filter, map, slice_get, Some, IfSome, option_map};
 ghost use Rattle.tuple_text.specs.FactRefs.{fact_value};
 ghost use Rattle.tuple_text.specs.Order.{fact_eq, user_eq};
 ghost use Rattle.tuple_text.specs.Refs.{set_value, user_value};
@@ -8,14 +8,14 @@ ghost use Rattle.tuple_text.specs.Sets.{set_eq};
 ghost use Rattle.tuple_text.specs.Tuples.{TupleValue};
 ghost use Rattle.version_chains.specs.Commits.{changelog, is_stored};
 ghost use Rattle.version_chains.specs.Touches.{touch_value};
-ghost use Rattle.trace_lines.specs.EntryViews.{entry_value};
 ghost use Rattle.trace_lines.specs.Values.{EntryValue};
 ghost use Rattle.token_order.specs.Order.{commit_lines_of};
 ghost use Rattle.carry_laws.specs.Carried.{placeless};
-ghost use Rattle.runs.specs.Alike.{commits_above, goes_on, is_open, issues_some, touch_eq, touches_above};
+ghost use Rattle.runs.specs.Alike.{commits_above, goes_on, is_above, is_open, last_time, touch_eq, touches_above};
 
 use marks::MarkedSet;
-use trace_lines::{Entry, EntryKind, Trace};
+use trace_lines::laws::stand_in_order;
+use trace_lines::{EntryKind, Trace};
 use tuple_text::{FactRef, SetRef, UserRef};
 use version_chains::{Chains, TouchRef};
 use zookie::Zookie;
@@ -133,6 +133,7 @@ fn first_above(log: &Trace, base: u64) -> usize
     ensures same { commits_above base (drop result (commit_lines_of log.now))
         ≡ commits_above base (commit_lines_of log.now) }
 {
+    stand_in_order(log);
     let times = log.chains().commits();
     let mut first = 0;
     // bounded by the commits: each turn passes over one
@@ -147,6 +148,8 @@ pub(crate) fn are_lines_alike(log: &Trace, other: &Trace, base: u64) -> bool
     ensures { result ≡ true → commits_above base (commit_lines_of log.now)
         ≡ commits_above base (commit_lines_of other.now) }
 {
+    stand_in_order(log);
+    stand_in_order(other);
     let times = log.chains().commits();
     let others = other.chains().commits();
     let i = first_above(log, base);
@@ -185,44 +188,45 @@ fn is_same_label(one: Option<&str>, other: Option<&str>) -> bool
     }
 }
 
-/// Whether two entries say the same on the same line.
-fn is_same_entry(one: &Entry<'_>, other: &Entry<'_>) -> bool
-    ensures { result ≡ true → placeless (entry_value one.now) ≡ placeless (entry_value other.now) }
+/// Whether an entry of each says the same on the same line.
+fn is_same_entry(log: &Trace, i: usize, other: &Trace, j: usize) -> bool
+    requires entry { i < length log.now.entries }
+    requires other { j < length other.now.entries }
+    ensures { result ≡ true → (d e : EntryValue) → slice_get log.now.entries i ≡ Some d
+        → slice_get other.now.entries j ≡ Some e → placeless d ≡ placeless e }
 {
-    one.kind == other.kind
-        && one.line == other.line
-        && one.reply == other.reply
-        && one.snapshot == other.snapshot
-        && is_same_goal(one.goal, other.goal)
-        && is_same_zookie(one.zookie, other.zookie)
-        && is_same_label(one.version, other.version)
+    let one = log.entry(i);
+    let two = other.entry(j);
+    one.kind == two.kind
+        && one.line == two.line
+        && one.reply == two.reply
+        && one.snapshot == two.snapshot
+        && is_same_goal(one.goal, two.goal)
+        && is_same_zookie(one.zookie, two.zookie)
+        && is_same_label(one.version, two.version)
 }
 
-/// Whether no commit is at or above the snapshot of an entry.
-pub(crate) fn is_open(log: &Trace, entry: &Entry<'_>) -> bool
-    ensures { result ≡ is_open log.now (entry_value entry.now) }
+/// Whether no commit is at or above a timestamp.
+pub(crate) fn is_above_all(log: &Trace, at: u64) -> bool
+    ensures { result ≡ is_above (last_time log.now) at }
 {
     match log.chains().commits().last() {
-        Some(last) => *last < entry.snapshot,
+        Some(last) => *last < at,
         None => true,
     }
 }
 
-/// Whether a check of content issues a version.
-fn issues_some(entry: &Entry<'_>) -> bool
-    ensures { result ≡ issues_some (entry_value entry.now).kind (entry_value entry.now).version }
+/// Whether an entry is still to be judged, or a later check may name its version.
+pub(crate) fn goes_on(log: &Trace, i: usize) -> bool
+    requires { i < length log.now.entries }
+    ensures { (e : EntryValue) → slice_get log.now.entries i ≡ Some e → result ≡ goes_on log.now e }
 {
-    match entry.kind {
+    let entry = log.entry(i);
+    let issues = match entry.kind {
         EntryKind::Check => false,
         EntryKind::Content => entry.version.is_some(),
-    }
-}
-
-/// Whether an entry is still to be judged, or a later check may name its version.
-pub(crate) fn goes_on(log: &Trace, entry: &Entry<'_>) -> bool
-    ensures { result ≡ goes_on log.now (entry_value entry.now) }
-{
-    is_open(log, entry) || issues_some(entry)
+    };
+    is_above_all(log, entry.snapshot) || issues
 }
 
 /// Whether the entries of the other are those of the log that go on.
@@ -233,9 +237,8 @@ pub(crate) fn are_entries_alike(log: &Trace, other: &Trace) -> bool
     let mut j = 0;
     // bounded by the entries of the log: each turn looks at one
     for i in 0..log.len() {
-        let entry = log.entry(i);
-        if goes_on(log, &entry) {
-            if j == other.len() || !is_same_entry(&entry, &other.entry(j)) {
+        if goes_on(log, i) {
+            if j == other.len() || !is_same_entry(log, i, other, j) {
                 return false;
             }
             j += 1;
@@ -252,7 +255,7 @@ pub(crate) fn are_open_from(log: &Trace, first: u64) -> bool
     // bounded by the entries: each turn looks at one
     for i in 0..log.len() {
         let entry = log.entry(i);
-        if is_open(log, &entry) && entry.line < first {
+        if entry.line < first && is_above_all(log, entry.snapshot) {
             return false;
         }
     }

@@ -1,8 +1,8 @@
 //! The carry of a log.
 
-ghost use Rattle.std.specs.Prelude.{◌≡◌, ◌×◌, ◌≤◌, true, IfOk, IfSome, option_map};
+ghost use Rattle.std.specs.Prelude.{◌≡◌, ◌≤◌, true, IfOk, IfSome, option_map};
 ghost use Rattle.carry.specs.Values.{carry_value, item_values};
-ghost use Rattle.runs.specs.Declared.{declared_in, texts_of};
+ghost use Rattle.runs.specs.DeclaredTexts.{declared_in, texts_of};
 ghost use Rattle.runs.specs.Handed.{AreDeclarationsOf, IsCarryOf};
 
 use crate::beginning::begin;
@@ -21,11 +21,15 @@ fn are_declaring(items: &[Item<'_>], declared: &[DeclaredLine]) -> bool
     let mut k = 0;
     // bounded by the items: each turn looks at one
     for item in items {
-        if let Said::Declares(text) = item.said {
-            if k == declared.len() || declared[k].text.as_str() != text {
-                return false;
+        match item.said {
+            Said::Declares(text) => {
+                if k == declared.len() || declared[k].text.as_str() != text {
+                    return false;
+                }
+                k += 1;
             }
-            k += 1;
+            Said::Commits(_) => {}
+            Said::Records(_) => {}
         }
     }
     k == declared.len()
@@ -51,7 +55,7 @@ pub fn is_carry_of(
     };
     match stands_in_from(log, &begun, carry.base) {
         // a line behind the last one is no line of the log that goes on
-        Some(first) => Ok(first - 1 <= carry.lines),
+        Some(first) => Ok(first.saturating_sub(1) <= carry.lines),
         None => Ok(false),
     }
 }
@@ -72,7 +76,7 @@ pub fn hand_on<'a>(
     requires { AreDeclarationsOf log.now (texts_of declared.now) }
     ensures carry { IfOk result (λ o. IfSome o (λ c. IsCarryOf log.now (carry_value c))) }
     ensures names { IfOk result (λ o. IfSome o (λ c. (c.lines ≡ lines) × (c.base ≤ oldest)
-        × (option_map (λ s. s.now) c.before ≡ option_map (λ s. s.now) before))) }
+        × (option_map (λ s. s.now) c.before ≡ option_map (λ s. s.now) before.entry))) }
 {
     let Some((commit, base)) = base_of(log, declared, oldest) else {
         return Ok(None);

@@ -9,7 +9,7 @@ ghost use Rattle.trace_lines.specs.Traces.{value_line};
 ghost use Rattle.trace_lines.specs.Values.{empty_trace, next_line};
 ghost use Rattle.trace_lines.specs.declared.cause.Cause.TheVariants as causes;
 ghost use Rattle.runs.specs.Begins.{log_of};
-ghost use Rattle.runs.specs.Declared.{declared_in, texts_of};
+ghost use Rattle.runs.specs.DeclaredTexts.{declared_in, texts_of};
 ghost use Rattle.runs.specs.Faults.{Gives};
 ghost use Rattle.runs.specs.Handed.{AreDeclarationsOf};
 
@@ -33,10 +33,13 @@ pub struct KeptLog {
 impl Model for KeptLog {
     ghost use Rattle.std.specs.Prelude.{◌≡◌};
     ghost use Rattle.trace_lines.specs.Values.{TraceValue};
-    ghost use Rattle.runs.specs.Declared.{texts_of};
+    ghost use Rattle.runs.specs.DeclaredTexts.{texts_of};
     ghost use Rattle.runs.specs.Handed.{AreDeclarationsOf};
+    ghost use Rattle.trace_lines.specs.TraceCode.{trace_code};
 
     ghost Value = { TraceValue };
+
+    ghost coded = { trace_code };
 
     ghost view = { λ k. k.log };
 

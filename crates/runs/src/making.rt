@@ -1,9 +1,9 @@
 //! The items of a carry. Nothing is promised of them: what they begin is compared with the log.
 
 ghost use Rattle.std.specs.Prelude.{◌<◌, ◌≤◌, length, IfSome};
-ghost use Rattle.runs.specs.Making.{IsThere};
+ghost use Rattle.runs.specs.Making.{IsBelow, IsThere};
 
-use crate::alike::{goes_on, is_open, stores};
+use crate::alike::{goes_on, is_above_all, stores};
 use crate::declared::DeclaredLine;
 use carry::{CarriedCheck, CarriedCommit, CheckKind, Item, Said};
 use std::alloc::{AllocError, Global};
@@ -16,7 +16,7 @@ fn first_open(log: &Trace) -> u64 {
     // bounded by the entries: each turn looks at one
     for i in 0..log.len() {
         let entry = log.entry(i);
-        if is_open(log, &entry) {
+        if is_above_all(log, entry.snapshot) {
             return entry.line;
         }
     }
@@ -60,10 +60,10 @@ pub(crate) fn base_of(log: &Trace, declared: &[DeclaredLine], oldest: u64) -> Op
 }
 
 fn push_tuple<'a>(touch: TouchRef<'a>, tuples: &mut Vec<TupleRef<'a>>) -> Result<(), AllocError> {
-    match TupleRef::of(touch.set, touch.user.user) {
-        Some(tuple) => tuples.push(tuple),
-        None => Ok(()),
+    if let Some(tuple) = TupleRef::of(touch.set, touch.user.user) {
+        tuples.push(tuple)?;
     }
+    Ok(())
 }
 
 /// The commit that stores what is stored at a timestamp.
@@ -104,7 +104,11 @@ fn commit_at<'a>(
             break;
         }
         if touch.at == at {
-            push_tuple(touch, if touch.live { &mut adds } else { &mut removes })?;
+            if touch.live {
+                push_tuple(touch, &mut adds)?;
+            } else {
+                push_tuple(touch, &mut removes)?;
+            }
         }
         *from = i + 1;
     }
@@ -126,6 +130,7 @@ fn check_of<'a>(entry: &Entry<'a>) -> CarriedCheck<'a> {
 }
 
 /// What the next line says.
+#[derive(Clone, Copy, Drop)]
 enum Next {
     Declares,
     Commits,
@@ -141,8 +146,8 @@ fn next_of(
     commit: usize,
     entry: usize,
 ) -> Option<Next>
-    ensures { IfSome result (IsThere (declaration < length declared.now) (commit < length log.now.commits)
-        (entry < length log.now.entries)) }
+    ensures { IfSome result (IsThere (IsBelow declaration (length declared.now))
+        (IsBelow commit (length log.now.commits)) (IsBelow entry (length log.now.entries))) }
 {
     let mut next = None;
     let mut line = u64::MAX;
@@ -214,12 +219,11 @@ pub(crate) fn items_of<'a>(
                 c += 1;
             }
             Next::Records => {
-                let entry = log.entry(e);
-                if goes_on(log, &entry) {
-                    let check = check_of(&entry);
+                if goes_on(log, e) {
+                    let entry = log.entry(e);
                     items.push(Item {
                         line: entry.line,
-                        said: Said::Records(check),
+                        said: Said::Records(check_of(&entry)),
                     })?;
                 }
                 e += 1;

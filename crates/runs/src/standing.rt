@@ -1,8 +1,8 @@
 //! Whether a shorter log stands in for another one.
 
-ghost use Rattle.std.specs.Prelude.{◌≡◌, Contains, IfSome};
-ghost use Rattle.token_order.specs.Order.{commit_lines_of};
+ghost use Rattle.std.specs.Prelude.{◌≡◌, IfSome};
 ghost use Rattle.carry_laws.specs.Carried.{StandsIn};
+ghost use Rattle.runs.specs.Alike.{IsCommitLine};
 
 use crate::alike::{
     are_all_stored, are_entries_alike, are_lines_alike, are_open_from, are_touches_alike,
@@ -12,8 +12,9 @@ use trace_lines::laws::stand_in_order;
 
 /// The line of the commit at a timestamp.
 fn line_at(log: &Trace, at: u64) -> Option<u64>
-    ensures { IfSome result (λ l. Contains (commit_lines_of log.now) (record { line = l; at = at })) }
+    ensures { IfSome result (λ l. IsCommitLine log.now l at) }
 {
+    stand_in_order(log);
     let times = log.chains().commits();
     // bounded by the commits: each turn looks at one
     for k in 0..times.len() {
@@ -35,12 +36,15 @@ pub(crate) fn stands_in_from(log: &Trace, other: &Trace, base: u64) -> Option<u6
     let line = line_at(log, base)?;
     let front = line_at(other, base)?;
     let first = line.checked_add(1)?;
-    let stands = front <= line
-        && are_all_stored(log.chains(), other.chains(), base)
-        && are_all_stored(other.chains(), log.chains(), base)
-        && are_touches_alike(log.chains(), other.chains(), base)
-        && are_lines_alike(log, other, base)
-        && are_entries_alike(log, other)
-        && are_open_from(log, first);
-    if stands { Some(first) } else { None }
+    if line < front
+        || !are_all_stored(log.chains(), other.chains(), base)
+        || !are_all_stored(other.chains(), log.chains(), base)
+        || !are_touches_alike(log.chains(), other.chains(), base)
+        || !are_lines_alike(log, other, base)
+        || !are_entries_alike(log, other)
+        || !are_open_from(log, first)
+    {
+        return None;
+    }
+    Some(first)
 }

@@ -1,0 +1,16 @@
+use Rattle.std.proofs.Common.{◌∙◌, [], ℕ, List, ap, sym}
+use Rattle.trace_lines.specs.Values.{TraceValue}
+use Rattle.carry.specs.Values.{carry_value, item_values}
+use Rattle.carry.specs.declared.value.Item.{Item}
+use Rattle.runs.specs.DeclaredTexts.{declared_by, declared_in}
+use Rattle.runs.proofs.DeclaredLemmas.{begun_declares}
+use Rattle.runs.proofs.handing.is_carry_of.Goals as goal
+
+pub stands_in_from-requires : goal.stands_in_from-requires
+stands_in_from-requires c =
+    ap (λ (t : TraceValue). t.declarations) c.finish-begun.ensures
+    ∙ begun_declares (carry_value c.args.carry.now) c.in-Ok.begun c.args.log.now.declarations c.in-Ok.ensures
+    (ap (λ (ts : List (List ℕ)). declared_by [] ts)
+    (ap (λ (is : List Item). declared_in (item_values is)) (sym c.deref.ensures.value)
+    ∙ c.are_declaring.ensures c.if-not-are_declaring.false)
+    ∙ c.requires)
