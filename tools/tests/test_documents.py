@@ -32,9 +32,6 @@ class Transcripts(Shown):
     def test_reports(self):
         self.show("docs", "REPORTS.md")
 
-    def test_recording(self):
-        self.show("docs", "RECORDING.md")
-
     def test_scale(self):
         self.show("docs", "SCALE.md")
 
@@ -53,10 +50,11 @@ class Transcripts(Shown):
     def test_every_example_and_document(self):
         documents = [["README.md"], *(["docs", name] for name in PAGES)]
         commands = {names[-1]: [command for command, _ in transcripts(read(*names))] for names in documents}
-        self.assertEqual([name for name in commands if commands[name]], ["README.md", "DAILY.md", "FORMATS.md", "IMPORTING.md", "MONITORING.md", "RECORDING.md", "REPORTS.md", "SCALE.md",
+        self.assertEqual([name for name in commands if commands[name]], ["README.md", "DAILY.md", "FORMATS.md", "IMPORTING.md", "MONITORING.md", "REPORTS.md", "SCALE.md",
                          "TUTORIAL.md"])
-        # The page on installing has its commands without a dollar sign; test_package runs these.
-        shown = " ".join([*(command for each in commands.values() for command in each), read("docs", "INSTALLING.md")])
+        # The page on installing has its commands without a dollar sign; test_package runs these. Units and recipes are named and not run.
+        named = [read("docs", name) for name in ("INSTALLING.md", "MONITORING.md", "RECORDING.md")]
+        shown = " ".join([*(command for each in commands.values() for command in each), *named])
         for example in os.listdir(os.path.join(TOP, "examples")):
             self.assertIn("examples/" + example, shown)
 

@@ -5,7 +5,6 @@ import re
 import shutil
 import subprocess
 import sys
-from collections import Counter
 
 from edits.texts import apply, edit_of, functions_of, groups_of
 from edits.verdicts import PROVED, REFUSED, UNREAD, UNTOLD, verdicts
@@ -262,21 +261,12 @@ class Edits(Case):
             found = edit_of(os.path.join(folder, "more-edits", edit + ".edit"), folder)
             self.assertEqual((it, found.fault, bool(found.functions)), (it, "", True))
 
-    def test_the_page_on_the_gate_counts_the_edits_of_each_crate(self):
+    def test_the_page_on_the_gate_counts_the_edits(self):
         with open(os.path.join(DEV, "edits", "in_the_gate"), encoding="utf-8") as file:
-            listed = Counter(it.split("/")[0] for it in file.read().splitlines() if not it.startswith("#"))
-        counted = {}
-        for folder in glob.glob(os.path.join(TOP, "crates", "*")):
-            crate = os.path.basename(folder)
-            inside, outside = (len(glob.glob(os.path.join(folder, part, "*.edit"))) for part in ("must-fail", "more-edits"))
-            if inside or outside:
-                counted[crate] = inside, listed[crate], outside - listed[crate]
+            listed = sum(not it.startswith("#") for it in file.read().splitlines())
+        inside, outside = (len(glob.glob(os.path.join(TOP, "crates", "*", part, "*.edit"))) for part in ("must-fail", "more-edits"))
         with open(os.path.join(TOP, "docs", "GATE.md"), encoding="utf-8") as file:
-            said = " ".join(file.read().split("Edits of each crate, ")[1].split("\n\n")[0].split())
-        found = re.findall(r"(?:`(\w+)`|all) (\d+) \+ (\d+) \+ (\d+)", said)
-        told = [(name, tuple(int(it) for it in numbers)) for name, *numbers in found]
-        total = tuple(sum(it) for it in zip(*counted.values()))
-        self.assertEqual(sorted(told), sorted([*counted.items(), ("", total)]))
+            self.assertIn("and outside: %d + %d + %d." % (inside, listed, outside - listed), " ".join(file.read().split()))
 
     def built(self):
         """What `rt ci` and ./check leave: the program, of what it was proved, and the library below it."""

@@ -31,12 +31,6 @@ class Totals(unittest.TestCase):
                 self.assertGreater(now, 0.75 * number(said))
                 self.assertLess(now, 1.25 * number(said))
 
-    def test_planted_bodies_add_up(self) -> None:
-        *crates, whole = rows("### Planted bodies")
-        self.assertGreater(len(crates), 3)
-        self.assertEqual(sum(number(row[1]) for row in crates), number(whole[1]))
-        self.assertIn("%s were accepted" % whole[1], " ".join(PAGE.split()))
-
     def test_random_cases(self) -> None:
         """How many there are stands in the tests' files, as constants or behind what the environment says."""
         files, names = "", [""]

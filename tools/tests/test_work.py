@@ -56,6 +56,13 @@ class Counted(Case):
         self.assertEqual((status, said[-1]), (0, "3 passed, 0 failed"))
         self.assertEqual([line.split(": ")[0] for line in said[:-1]], ["wide_records", "wide_records, make", "wide_records, audit --make"])
 
+    def test_the_page_of_the_table_is_made_of_what_was_printed(self) -> None:
+        run = subprocess.run([sys.executable, os.path.join(TOP, "tools", "dev", "hostile_table")], input=read("bench", "hostile.txt"), capture_output=True,
+                             text=True, timeout=300)
+        self.assertEqual((run.returncode, run.stdout, run.stderr), (0, read("bench", "hostile.md"), ""))
+        rows = [line for line in run.stdout.splitlines() if line.startswith("| `")]
+        self.assertEqual(len(rows), sum(" a byte" in line for line in read("bench", "hostile.txt").splitlines()))
+
     def test_the_tables_name_kinds(self) -> None:
         """And the head of the generator tells each kind, in the order of its table."""
         generator, key = read("bench", "hostile.py"), re.compile(r'^    "(\w+)": ', re.MULTILINE)

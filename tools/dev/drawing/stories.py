@@ -113,3 +113,33 @@ def windows() -> Picture:
     picture.text(24, 284, "The state: the stored tuples, the latest commits, the rules, the versions that may still be named,", "soft")
     picture.text(24, 302, "and the entries that wait for a later commit. All days together tell what one audit of the whole log tells.", "soft")
     return picture
+
+
+def way_to_a_verdict() -> Picture:
+    picture = Picture(860, 340, "From requests to a verdict",
+                      "The application asks the recorder in place of the service. The recorder passes each request on, reads rules and changes, and writes a log. The "
+                      "import makes a trace of the log, which new_enemy audits; ne report says what of its report mattered. ne monitor does the same while the log grows.")
+    picture.text(24, 30, "From requests to a verdict", "head")
+    picture.box(24, 44, 166, 48, ["your application", "names what it shows"])
+    picture.line([(190, 68), (230, 68)])
+    picture.box(230, 44, 180, 48, ["ne record", "passes each request on"], "main", "code")
+    picture.line([(410, 68), (450, 68)])
+    picture.box(450, 44, 150, 48, ["the service", "OpenFGA, SpiceDB"])
+    picture.line([(525, 92), (525, 118), (370, 118), (370, 93)], "dash")
+    picture.text(534, 122, "rules and changes", "soft")
+    picture.line([(280, 92), (280, 160)])
+    picture.box(205, 160, 150, 48, ["the log", "files of JSON lines"])
+    picture.line([(355, 184), (395, 184)])
+    picture.box(395, 160, 130, 48, ["ne import", "asks for the order"], "main", "code")
+    picture.line([(525, 184), (560, 184)])
+    picture.box(560, 160, 126, 48, ["the trace", "users are numbers"])
+    picture.line([(686, 184), (721, 184)])
+    picture.box(721, 160, 115, 48, ["new_enemy", "the audit"], "good", "code")
+    picture.line([(778, 208), (778, 246)])
+    picture.box(656, 246, 180, 48, ["the report", "what was wrong, and where"])
+    picture.line([(656, 270), (616, 270)])
+    picture.box(446, 246, 170, 48, ["ne report", "did it matter, and why"], "main", "code")
+    picture.line([(280, 208), (280, 246)])
+    picture.box(205, 246, 190, 48, ["ne monitor", "the same, while it grows"], "main", "code")
+    picture.text(24, 322, "Green is proved, blue is tested. ne day does import, audit and report for each day's log.", "soft")
+    return picture

@@ -1,6 +1,10 @@
 """Content checks that say they were evaluated at the newest state: each is put right behind the commit of its snapshot.
 
 A line that is logged a little behind its evaluation would else stand behind commits that the check could not see.
+
+It is not believed where a later commit was certainly visible before it: where another check saw that commit and was evaluated before (by both
+times, on different clocks by more than the skew); where a line without `time` that stands before it did; or where the commit has a `time`
+before it by more than the skew. It is then audited without a version, and counted.
 """
 from bisect import bisect_left, bisect_right
 from typing import Any, NamedTuple, Optional

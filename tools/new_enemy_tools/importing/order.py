@@ -1,4 +1,8 @@
-"""The order of events: that of one sequencer, or that of clocks that may be apart by so many milliseconds."""
+"""The order of events: that of one sequencer, or that of clocks that may be apart by so many milliseconds.
+
+The order of two events can change a finding where they are two writes, a write and a content check, a write and a check whose snapshot takes
+it in, or a content check and a check of its version.
+"""
 from collections import deque
 from typing import Generic, Iterable, Iterator, Optional, TypeVar
 

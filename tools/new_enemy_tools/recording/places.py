@@ -1,6 +1,18 @@
 """Where the commits of OpenFGA stand, and from when to when each may have come.
 
 The log has one order of commits; of two whose times overlap it is not known whether it is theirs.
+
+1. Each read of the changes begins some way back, at a token at least --overlap seconds old. What it has seen is known by the tuple, whether
+   it came or went, and the service's time. A read that shows less than one before, as a replica may, counts for nothing.
+2. A change did not come before a read began that did not show it, and had come when one ended that did; a write that passed came between its
+   request and its answer. Its changes with one time, side by side, are one commit; others are one each. Where a write has no answer yet,
+   they are placed when it has one, or two seconds after it was asked.
+3. The log has the changes in the order in which they had surely come. Those of one tuple come and go by turns. Where one does not, or one is
+   shown later than another behind it, it is not known whether the tuple is there, until it changes again at a time that is surely later; a
+   log of the changes alone has it as one without a form.
+4. A check waits for a read that began behind its answer, for one more where changes came meanwhile, and for the writes that it may have
+   seen. A content check stands behind all changes that were known when it began; it is a gap where a change before it in the log need not
+   have come. What bears on a question is told by the names of the rules.
 """
 from bisect import bisect_right
 from typing import Callable, Iterable, NamedTuple, Optional

@@ -1,7 +1,9 @@
 """What a window leaves to the next: a file of rows, the lines that the next window is read behind.
 
-The first line is an object of JSON, the last one the checksum of all bytes before it. Between them stands a row for each line, in the
-order in which the next window has them: a letter, the number of the line in the whole log, a number, and the line as it is.
+The first line is an object of JSON: `new_enemy_state`, 1; how many windows, lines and bytes of the log it stands for, and a checksum of the
+latter (`log`), the same however the log was cut; the checksum of the state before (`before`); the base, and what else the tools need. The
+last line has the checksum of all bytes before it (`sum`). Between them stands a row for each line, in the order in which the next window
+has them: a letter, the number of the line in the whole log, a number, and the line as it is.
 
   r  rules, with their timestamp or -1
   f  a line of the store at the base, in the place of a commit that it replaces, with its timestamp
