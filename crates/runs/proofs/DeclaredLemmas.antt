@@ -1,5 +1,5 @@
 -- What a log declares whose items say the texts.
-use Rattle.std.proofs.Common.{◌≡◌, ℕ, ◌+◌, ◌++◌, ◌&&◌, Bool, true, false, cond, ltb, leb, List, [], ◌∷◌, Option, None, Some, Result, Ok, Err, codes, refl, sym, ◌∙◌, ap}
+use Rattle.std.proofs.Common.{◌≡◌, ℕ, ◌+◌, ◌++◌, ◌&&◌, Bool, true, false, cond, List, [], ◌∷◌, Option, None, Some, Result, Ok, Err, codes, refl, sym, ◌∙◌, ap}
 use Rattle.std.specs.Prelude.{option_and_then, nat_lt, nat_le}
 use Rattle.std.specs.Result.{result_ok}
 use Rattle.serde_json.specs.Data.{Data}
@@ -16,7 +16,7 @@ use Rattle.json_lines.specs.Json.{of_json}
 use Rattle.trace_lines.specs.Causes.{namespace_cause}
 use Rattle.trace_lines.specs.LineValues.{put_line, placed_at}
 use Rattle.trace_lines.specs.LineValues as line
-use Rattle.trace_lines.specs.Traces.{append_cause, are_declared, change_line, changes_of, commit_checked, declaration_line, declared_from, empty_commit, is_begun, is_declared, late_or, namespace_line, recorded, rules_checked, tuples_checked, with_commit, with_entry, with_namespace, with_touches}
+use Rattle.trace_lines.specs.Traces.{append_cause, are_declared, change_line, changes_of, commit_checked, declaration_line, declared_from, empty_commit, is_begun, is_declared, late_or, namespace_line, rules_checked, tuples_checked, with_commit, with_entry, with_namespace, with_touches}
 use Rattle.trace_lines.specs.Values.{EntryValue, TraceValue, empty_trace}
 use Rattle.trace_lines.specs.Versions.{is_repeated}
 use Rattle.trace_lines.specs.declared.cause.Cause.{Cause}
@@ -25,7 +25,6 @@ use Rattle.carry.specs.Values.{CarryValue, ItemValue, SaidValue, declares, commi
 use Rattle.runs.specs.Begins.{line_of, log_from, log_of, with_item}
 use Rattle.runs.specs.DeclaredTexts.{declared_by, declared_in, rules_from, rules_said, with_declared}
 use Rattle.runs.specs.Faults.{refused_at}
-use Rattle.runs.specs.declared.fault.BeginFault.{BeginFault}
 use Rattle.runs.specs.declared.fault.BeginFault.TheVariants.{OutOfOrder}
 
 pub step : {A B E : Type 0} (r : Result A E) (f : A → Result B E) (y : B) → (r >>= f) ≡ Ok y → (x : A) × (r ≡ Ok x) × (f x ≡ Ok y)

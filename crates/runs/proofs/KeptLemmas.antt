@@ -1,5 +1,5 @@
 -- A log that keeps the texts of its declarations.
-use Rattle.std.proofs.Common.{◌≡◌, ℕ, ◌+◌, ◌<◌, ◌≤◌, ◌⊎◌, inl, inr, Bool, true, false, cond, List, [], ◌∷◌, ◌++◌, length, Option, None, Some, Result, Ok, Err, codes, refl, sym, ◌∙◌, ap, subst, arith, length-append}
+use Rattle.std.proofs.Common.{◌≡◌, ℕ, ◌+◌, ◌<◌, ◌≤◌, ◌⊎◌, inl, inr, Bool, true, false, cond, List, [], ◌∷◌, ◌++◌, length, Option, None, Some, Result, Ok, Err, codes, refl, ◌∙◌, ap, arith, length-append}
 use Rattle.std.specs.Prelude.{bytes_eq, option_and_then}
 use Rattle.std.specs.Result.{result_ok}
 use Rattle.serde_json.specs.Data.{Data}
@@ -9,12 +9,10 @@ use Rattle.namespaces.specs.Adding.{rules_add}
 use Rattle.namespaces.specs.Changing.{rules_change}
 use Rattle.namespaces.specs.Declaration.{Declaration}
 use Rattle.namespaces.specs.declared.fault.RulesFault.{RulesFault}
-use Rattle.refusals.specs.Refusals.{◌>>=◌}
 use Rattle.json_lines.specs.Fields.{optional_number_at}
 use Rattle.json_lines.specs.Json.{of_json}
 use Rattle.trace_lines.specs.Traces.{commit_line, commit_of, declaration_line, entry_line, entry_of, of_kind, value_line, with_commit, with_entry}
 use Rattle.trace_lines.specs.Values.{TraceValue}
-use Rattle.trace_lines.specs.declared.cause.Cause.{Cause}
 use Rattle.trace_lines.specs.declared.cause.Cause.TheVariants as causes
 use Rattle.trace_lines.specs.declared.entry.EntryKind.{EntryKind}
 use Rattle.trace_lines.specs.declared.entry.EntryKind.TheVariants.{Check, Content}

@@ -1,6 +1,6 @@
 -- When a shorter log stands in for another one.
 use Rattle.std.proofs.Common.{◌≡◌, ℕ, zero, suc, ◌+◌, ◌-◌, ◌<◌, ◌≤◌, ◌||◌, inl, inr, Bool, true, false, cond, eqb, ltb, leb, List, [], ◌∷◌, ◌++◌, length, map, get_or, Option, Some, None, refl, sym, ◌∙◌, ap, subst, arith}
-use Rattle.std.specs.Prelude.{All, filter, slice_get, is_some, option_map}
+use Rattle.std.specs.Prelude.{All, filter, slice_get, option_map}
 use Rattle.std.specs.List.{AllByRecursion, list_any}
 use Rattle.std.specs.List.Sorted.{IsStrictlyIncreasing}
 use Rattle.std.proofs.Math.Bool.{or-true}
@@ -12,20 +12,20 @@ use Rattle.std.proofs.lemmas.Option.{get_or_from_slice_get, slice_get_within}
 use Rattle.tuple_text.specs.Sets.{SetValue}
 use Rattle.tuple_text.specs.Tuples.{TupleValue}
 use Rattle.version_chains.specs.Commits.{Commit, changelog, is_stored, store_at}
-use Rattle.trace_lines.specs.Placed.{AreInPlace, HasPlacedCommits}
+use Rattle.trace_lines.specs.Placed.{HasPlacedCommits}
 use Rattle.trace_lines.specs.Values.{EntryValue, TraceValue}
 use Rattle.trace_lines.specs.Versions.{Version, is_version, issues, version_issued, version_of}
 use Rattle.trace_lines.specs.declared.entry.EntryKind.{EntryKind}
 use Rattle.trace_lines.specs.declared.entry.EntryKind.TheVariants.{Check, Content}
 use Rattle.token_order.specs.Order.{CommitLine, commit_lines_of, on_lines}
 use Rattle.windows.specs.Alike.{AreSameTuples}
-use Rattle.windows.specs.Compaction.{StandsFor, above, up_to}
+use Rattle.windows.specs.Compaction.{above, up_to}
 use Rattle.windows.specs.Growth.{is_settled}
 use Rattle.windows.proofs.CompactionLemmas.{AreOrdered, IsAbove, IsUpTo, all_above, all_filtered, cut, ordered, stored_alike}
 use Rattle.windows.proofs.CutLemmas.{lines_of}
 use Rattle.windows.proofs.GrownLemmas.{same_store}
 use Rattle.windows.proofs.NearestLemmas.{AreInTime, lines_in_time}
-use Rattle.carry_laws.specs.Carried.{Keeps, StandsIn, has_commit_at, lines_above, placeless}
+use Rattle.carry_laws.specs.Carried.{Keeps, StandsIn, has_commit_at, placeless}
 use Rattle.carry_laws.proofs.OnwardLemmas.{all_lines}
 use Rattle.carry_laws.proofs.StandInLemmas.{weaker}
 use Rattle.runs.specs.Alike.{IsCommitLine, commits_above, goes_on, is_above, is_open, issues_some, last_time, touches_above}

@@ -1,12 +1,12 @@
 -- Touches that are compared.
-use Rattle.std.proofs.Common.{◌≡◌, ℕ, zero, suc, ◌+◌, ◌<◌, ◌≤◌, ◌&&◌, Bool, true, false, cond, eqb, leb, length, List, [], ◌∷◌, Option, Some, None, refl, sym, ◌∙◌, ap, subst, arith}
-use Rattle.std.specs.Prelude.{not, slice_get, filter}
+use Rattle.std.proofs.Common.{◌≡◌, ℕ, zero, suc, ◌<◌, ◌≤◌, ◌&&◌, Bool, true, false, cond, eqb, leb, length, List, [], ◌∷◌, Some, None, refl, sym, ◌∙◌, ap, subst, arith}
+use Rattle.std.specs.Prelude.{slice_get, filter}
 use Rattle.std.proofs.lemmas.Bool.{eqb-true, not-true}
 use Rattle.std.proofs.lemmas.Option.{slice_get_within}
 use Rattle.tuple_text.specs.Order.{tuple_eq}
 use Rattle.tuple_text.specs.Tuples.{TupleValue}
 use Rattle.tuple_text.proofs.ValueLemmas.{tuple_eq-same}
-use Rattle.version_chains.specs.Commits.{Commit, Touch, changelog, is_stored, last_live, touches_to, until}
+use Rattle.version_chains.specs.Commits.{Commit, Touch, changelog, is_stored, last_live}
 use Rattle.runs.specs.Alike.{flag_eq, touch_eq}
 
 both_true : (a b : Bool) → (a && b) ≡ true → (a ≡ true) × (b ≡ true)

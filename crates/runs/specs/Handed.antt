@@ -1,5 +1,5 @@
 -- A carry of a log.
-use Rattle.std.specs.Prelude.{◌≡◌, ℕ, ◌+◌, ◌≤◌, List, [], Option, Some, Ok}
+use Rattle.std.specs.Prelude.{◌≡◌, ℕ, ◌+◌, ◌≤◌, List, [], Some, Ok}
 use Rattle.trace_lines.specs.Values.{TraceValue}
 use Rattle.carry.specs.Values.{CarryValue}
 use Rattle.carry_laws.specs.Carried.{StandsIn}

@@ -62,6 +62,7 @@ fn put_item(
     requires { next_line log.old ≤ last + 1 }
     ensures answer { Gives (λ _. log.new) result (with_item lines k last log.old (item_value item.now)) }
     ensures further { OnOk result (next_line log.new ≤ item.now.line + 1) }
+    ensures within { OnOk result (item.now.line ≤ lines) }
 {
     if item.line <= last || lines < item.line {
         return Err(BeginFault::OutOfOrder { item: k });
@@ -80,7 +81,9 @@ fn put_item(
 /// or behind the lines that the carry counts; `Refused` where what it says does not fit the items before it, for the cause
 /// that a line of a trace would be refused for. OutOfMemory comes where memory was refused, whatever else applies.
 pub fn begin(alloc: Global, carry: &Carry<'_>) -> Result<TraceBuilder, BeginFault>
-    ensures { Gives (λ log. log) result (log_of (carry_value carry.now)) }
+    ensures begun { Gives (λ log. log) result (log_of (carry_value carry.now)) }
+    // a line behind those that the carry counts may come next
+    ensures further { IfOk result (λ log. next_line log ≤ carry.now.lines + 1) }
 {
     let mut log = TraceBuilder::new(alloc);
     let mut last = 0;

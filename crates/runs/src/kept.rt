@@ -76,7 +76,8 @@ impl KeptLog {
 
     /// The log that a carry begins. It is refused as by [`begin`].
     pub fn resume(alloc: Global, carry: &Carry<'_>) -> Result<KeptLog, BeginFault>
-        ensures { Gives (λ log. log) result (log_of (carry_value carry.now)) }
+        ensures begun { Gives (λ log. log) result (log_of (carry_value carry.now)) }
+        ensures further { IfOk result (λ log. next_line log ≤ carry.now.lines + 1) }
     {
         let declared = declared_lines(alloc, &carry.items)?;
         let log = begin(alloc, carry)?;

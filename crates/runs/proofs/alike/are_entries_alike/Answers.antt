@@ -1,5 +1,4 @@
-use Rattle.std.proofs.Common.{◌≡◌, ◌+◌, ◌≤◌, ◌<◌, ℕ, List, Some, true, ◌∙◌, sym, ap, arith, drop, length, map}
-use Rattle.std.specs.Prelude.{filter, slice_get}
+use Rattle.std.proofs.Common.{◌<◌, ℕ, List, ◌∙◌, sym, ap, arith, drop, length, map}
 use Rattle.trace_lines.specs.Values.{EntryValue}
 use Rattle.carry_laws.specs.Carried.{placeless}
 use Rattle.runs.specs.Alike.{goes_on}

@@ -1,4 +1,4 @@
-use Rattle.std.proofs.Common.{◌≡◌, ◌+◌, ◌-◌, ◌<◌, ◌≤◌, ℕ, List, [], Some, ◌∙◌, sym, ap, arith, drop, get_or, length, map}
+use Rattle.std.proofs.Common.{◌≡◌, ◌+◌, ℕ, List, Some, ◌∙◌, sym, ap, arith, drop, length, map}
 use Rattle.std.specs.Prelude.{nat_lt, slice_get}
 use Rattle.std.proofs.Math.ListN.{drop_of_length-le}
 use Rattle.std.proofs.lemmas.List.{length-map}

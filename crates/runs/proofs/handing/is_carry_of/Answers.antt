@@ -9,7 +9,7 @@ use Rattle.runs.proofs.handing.is_carry_of.Goals as goal
 pub stands_in_from-requires : goal.stands_in_from-requires
 stands_in_from-requires c =
     ap (λ (t : TraceValue). t.declarations) c.finish-begun.ensures
-    ∙ begun_declares (carry_value c.args.carry.now) c.in-Ok.begun c.args.log.now.declarations c.in-Ok.ensures
+    ∙ begun_declares (carry_value c.args.carry.now) c.in-Ok.begun c.args.log.now.declarations c.in-Ok.ensures.begun
     (ap (λ (ts : List (List ℕ)). declared_by [] ts)
     (ap (λ (is : List Item). declared_in (item_values is)) (sym c.deref.ensures.value)
     ∙ c.are_declaring.ensures c.if-not-are_declaring.false)

@@ -1,6 +1,6 @@
-use Rattle.std.proofs.Common.{◌≡◌, ◌++◌, ◌∷◌, [], ◌∙◌, ℕ, List, sym, ap, arith, length}
+use Rattle.std.proofs.Common.{◌++◌, ◌∷◌, [], ◌∙◌, ℕ, List, ap, arith}
 use Rattle.std.proofs.lemmas.List.{map-append}
-use Rattle.std.specs.Prelude.{Some, string_bytes}
+use Rattle.std.specs.Prelude.{string_bytes}
 use Rattle.runs.specs.DeclaredTexts.{declared_by, texts_of}
 use Rattle.runs.specs.declared.declared.DeclaredLine.{DeclaredLine}
 use Rattle.runs.proofs.KeptLemmas.{kept_as_long, kept_longer}

@@ -9,4 +9,4 @@ pub invariant_of-result : goal.invariant_of-result
 invariant_of-result c =
     ap (λ (ts : List (List ℕ)). declared_by [] ts)
     (c.in_ok-declared.ensures ∙ ap (λ (is : List Item). declared_in (item_values is)) c.deref.ensures.value)
-    ∙ begun_texts (carry_value c.args.carry.now) c.in_ok-log.log c.in_ok-log.ensures
+    ∙ begun_texts (carry_value c.args.carry.now) c.in_ok-log.log c.in_ok-log.ensures.begun
