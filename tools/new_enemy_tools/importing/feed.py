@@ -10,7 +10,7 @@ from new_enemy_tools.importing.checks import Row
 from new_enemy_tools.importing.events import Entry, Event, Relationship, is_whole
 from new_enemy_tools.importing.models import BEFORE, Given, Models, OtherModel, TwoModels
 from new_enemy_tools.importing.order import ordered
-from new_enemy_tools.importing.packed import Index, Odd, Packed
+from new_enemy_tools.importing.packed import Index, Moments, Odd, Packed
 from new_enemy_tools.importing.reading import Bad
 from new_enemy_tools.importing.refusals import Refusals
 from new_enemy_tools.importing.spool import CHECKS, Lines, WriteRow, row_of
@@ -175,22 +175,21 @@ class Placing:
         index = given.head
         first = places[0] if places else 0
         # By their sequences changes may stand in another order than their lines.
-        if not self.models.is_plain or first is None or places != list(range(first, first + len(places))) or any(
+        if not self.models.is_plain or index.asked.is_between or first is None or places != list(range(first, first + len(places))) or any(
                 self.models.takes((of, relation, user_type, None)) != [(relation, None)] for of, relation, user_type in index.keys):
             return None
-        numbers: dict[Row, tuple[int, Optional[int]]] = {}
+        asked = index.asked
         try:
-            for asked in index.asked:
-                moments, token, model = asked
-                if len(moments) > 1:
-                    return None
-                snapshot = self._place(moments[0], "snapshot")
-                self.models.name_at("", model, snapshot, snapshot)
-                numbers[asked] = snapshot, None if token is None else max(self._place(token, "token"), 0)
+            numbers = [self._place(moment, "snapshot") for moment in asked.listed]
+            for model in asked.models:
+                # One that names none is of the model that is in force at its place.
+                for place in set(numbers[:asked.snapshots]) if model is None and len(self.models.used) > 1 else (0,):
+                    self.models.name_at("", model, place, place)
         except (OtherModel, TwoModels, Bad):
             return None
-        named = {one for numbered in numbers.values() for one in numbered if one is not None}
-        return Packed(index._replace(lowest=min((snapshot for snapshot, _ in numbers.values()), default=None), revisions=list(named), asked=[],
+        snapshots = numbers[:asked.snapshots]
+        revisions = {*snapshots, *(max(place, 0) for place in numbers[asked.snapshots:])}
+        return Packed(index._replace(lowest=min(snapshots, default=None), revisions=list(revisions), asked=Moments([], 0, [], False),
                                      writes=list(range(first, first + len(places))), is_rising=True), *given[1:3], first, numbers)
 
     def _place(self, moment: Row, what: str) -> int:
@@ -372,7 +371,7 @@ def _asked(lines: Lines) -> Iterator[Optional[str]]:
     """The models that checks name; of many together once."""
     for found in lines.stream():
         if isinstance(found, Packed):
-            yield from (asked[2] for asked in found.head.asked)
+            yield from found.head.asked.models
         for row in (odd.row for odd in found.head.odd) if isinstance(found, Packed) else (found,):
             if isinstance(row, tuple) and row[0] in CHECKS and row[11]:
                 yield row[11][2]
