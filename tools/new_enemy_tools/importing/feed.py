@@ -1,7 +1,7 @@
 """OpenFGA's changes feed: revisions are places in it, counted from 1 behind the base state, and timestamps are labels."""
 from bisect import bisect_right
 from functools import cached_property
-from itertools import accumulate
+from itertools import accumulate, starmap
 from typing import Any, Callable, Iterable, Iterator, NamedTuple, Optional, Union, cast
 
 from new_enemy_tools.importing.called import Unshown
@@ -10,15 +10,17 @@ from new_enemy_tools.importing.checks import Row
 from new_enemy_tools.importing.events import Entry, Event, Relationship, is_whole
 from new_enemy_tools.importing.models import BEFORE, Given, Models, OtherModel, TwoModels
 from new_enemy_tools.importing.order import ordered
-from new_enemy_tools.importing.packed import Index, Moments, Odd, Packed
+from new_enemy_tools.importing.packed import Index, Moments, Odd, Packed, Stood, stood_of
 from new_enemy_tools.importing.reading import Bad
 from new_enemy_tools.importing.refusals import Refusals
 from new_enemy_tools.importing.spool import CHECKS, Lines, WriteRow, row_of
 from new_enemy_tools.importing.times import nanoseconds
 
 NOT_TAKEN = "tuple that the model does not take"
-# The places of so many moments are known at once.
-MOST = 1 << 15
+# The places of so many moments are known at once; and so many tuples that are stored, behind which none is looked at any more.
+MOST, MOST_STORED = 1 << 15, 1 << 20
+STORED = ("this change writes a tuple that is stored already, and the service refuses that: a change before it is missing, or the base state is "
+          "of another time")
 
 NO_SNAPSHOT = ("the check has none of `snapshot` and `snapshot_between`, and OpenFGA does not say which state it looked at: run `ne record`, "
                "or add one of them to each line")
@@ -278,6 +280,7 @@ def _changes(lines: Lines, base: Moment, given: Given, skew: Optional[int],
     # Rows of writes have the fields that order them.
     in_order: Iterable[Any] = ordered(cast("list[Event]", as_read), skew, Refusals()) if are_sorted else changes()
     repeated = Repeated(event.revision for event in in_order if event.kind != "rules") if are_sorted else Repeated(_times(lines))
+    stored = Stored(lines, refusals)
     starts = [(BEFORE, model) for model in range(given.first)]
     times: list[int] = []
     places: list[Optional[int]] = []
@@ -287,6 +290,7 @@ def _changes(lines: Lines, base: Moment, given: Given, skew: Optional[int],
                 and repeated.take(found.head):
             places += range(len(times) + 1, len(times) + len(found.head.writes) + 1)
             times += found.head.writes
+            stored.take(found.head.file, starmap(Stood, found.head.stood))
             continue
         for event in _changes_in(found):
             if event.kind == "rules":
@@ -298,6 +302,7 @@ def _changes(lines: Lines, base: Moment, given: Given, skew: Optional[int],
             is_again = repeated.has(event)
             if not is_again:
                 times.append(event.revision)
+                stored.take(event.file, stood_of([event if isinstance(event, tuple) else row_of(event)]))
             if are_sorted:
                 by_event[id(event)] = None if is_again else len(times)
             else:
@@ -365,6 +370,29 @@ class Repeated:
                 is_again = self.touched.get(given) == live or (live, given) in self.apart.get(event.revision, ())
                 self.touched[given] = live
         return is_again
+
+
+class Stored:
+    """The tuples that are stored, in short. A write of one that is says that a change is missing, where none was left out."""
+
+    def __init__(self, lines: Lines, refusals: Refusals):
+        self.refusals = refusals
+        self.keys: set[int] = set()
+        self.is_known = not refusals.left_out
+        for event in lines.events() if lines.facts.last_base >= 0 else ():
+            if isinstance(event, WriteRow) and event.base:
+                self.keys.update(map(hash, map(tuple, event.add)))
+
+    def take(self, file: str, changes: Iterable[Stood]) -> None:
+        """Takes the changes that are next in order."""
+        self.is_known &= len(self.keys) <= MOST_STORED
+        for one in changes if self.is_known else ():
+            if one.is_again or one.first and one.key in self.keys:
+                self.refusals.refuse(file, one.line, STORED)
+            if one.last:
+                self.keys.add(one.key)
+            else:
+                self.keys.discard(one.key)
 
 
 def _asked(lines: Lines) -> Iterator[Optional[str]]:

@@ -6,7 +6,7 @@ is taken row by row, among the others.
 import marshal
 from itertools import groupby
 from operator import itemgetter
-from typing import Callable, Collection, Iterator, Mapping, NamedTuple, Optional
+from typing import Callable, Collection, Iterable, Iterator, Mapping, NamedTuple, Optional
 
 from new_enemy_tools.edges import Name
 from new_enemy_tools.ids import Ids
@@ -41,6 +41,17 @@ class Issued(NamedTuple):
     token: Optional[int]
     asked: Optional[tuple[int, Optional[int]]]
     line: int
+
+
+class Stood(NamedTuple):
+    """A tuple in short, whether the first change of it and the last one of some add it, and the line of the first, or of one that adds it
+    behind another one that does."""
+
+    key: int
+    first: bool
+    last: bool
+    line: int
+    is_again: bool
 
 
 class Moments(NamedTuple):
@@ -85,6 +96,7 @@ class Index(NamedTuple):
     # where writes are changes of a feed, whether none touches a tuple again that another one of its time does, and what those of the last time touch
     is_once: bool
     touched: dict[Row, bool]
+    stood: list[Stood]
 
 
 class Packed(NamedTuple):
@@ -281,10 +293,11 @@ class Indexer:
         rows = [row[2] for _, _, row in others if row[0] != NAMES]
         is_rising = None not in writes and all(before <= one for before, one in zip(writes, writes[1:]))
         is_once, touched = _touched(others) if self.has_groups else (False, {})
+        stood = list(map(tuple, stood_of(row for _, _, row in others if row[0] == "write" and not row[5]))) if self.has_groups else []
         index = Index(checks.file, min([checks.first, *rows[:1]] if checks.size else rows[:1], default=0), checks.size + len(rows), checks.size,
                      len(others), list(pairs), list(keys),
                      min((low for low in lows if low is not None), default=None), [one for one in revisions if one not in (None, NEWEST)],
-                     asked, _named(checks, saved), issued, writes, is_rising, plain, joins, last, odd, is_once, touched)
+                     asked, _named(checks, saved), issued, writes, is_rising, plain, joins, last, odd, is_once, touched, stood)  # type: ignore[arg-type]
         return Packed(index, marshal.dumps([*parts, names.part()]), marshal.dumps(tuple(checks)))
 
     def _plain_writes(self, checks: Checks) -> dict[int, bool]:
@@ -358,6 +371,22 @@ def _touched(others: list[Other]) -> tuple[bool, dict[Row, bool]]:
                 is_once &= touched.keys().isdisjoint(listed)
                 touched.update(dict.fromkeys(listed, live))
     return is_once, touched
+
+
+def stood_of(rows: Iterable[Row]) -> Iterator[Stood]:
+    """The tuples that changes touch, each once."""
+    found: dict[int, Stood] = {}
+    for row in rows:
+        for live, listed in ((False, row[11]), (True, row[10])):
+            for key in map(hash, map(tuple, listed)):
+                before = found.get(key)
+                if before is None:
+                    found[key] = Stood(key, live, live, row[2], False)
+                elif live and before.last and not before.is_again:
+                    found[key] = before._replace(line=row[2], is_again=True)
+                else:
+                    found[key] = before._replace(last=live)
+    return iter(found.values())
 
 
 class Kept:
