@@ -6,7 +6,7 @@ is taken row by row, among the others.
 import marshal
 from itertools import groupby
 from operator import itemgetter
-from typing import Callable, Collection, Iterable, Iterator, Mapping, NamedTuple, Optional
+from typing import Any, Callable, Collection, Iterable, Iterator, Mapping, NamedTuple, Optional
 
 from new_enemy_tools.edges import Name
 from new_enemy_tools.ids import Ids
@@ -96,7 +96,8 @@ class Index(NamedTuple):
     # where writes are changes of a feed, whether none touches a tuple again that another one of its time does, and what those of the last time touch
     is_once: bool
     touched: dict[Row, bool]
-    stood: list[Stood]
+    # of such changes the tuples that they touch, each the fields of a Stood
+    stood: list[Row]
 
 
 class Packed(NamedTuple):
@@ -150,12 +151,12 @@ class Packed(NamedTuple):
         yield from entries
 
 
-def packed_of(found: tuple[object, ...]) -> Packed:
+def packed_of(found: tuple[Any, ...]) -> Packed:
     """What `dumped` gives, when it was loaded."""
     index, *rest = found
-    made = Index(*index)  # type: ignore[misc]
-    return Packed(made._replace(odd=[Odd(*one) for one in made.odd], issued=[Issued(*one) for one in made.issued],  # type: ignore[arg-type]
-                                asked=Moments(*made.asked)), *rest)
+    made = Index(*index)
+    return Packed(made._replace(odd=[Odd(*one) for one in made.odd], issued=[Issued(*one) for one in made.issued], asked=Moments(*made.asked)),
+                  *rest)
 
 
 def moments_of(checks: Checks, contents: Collection[int]) -> Moments:
@@ -293,11 +294,11 @@ class Indexer:
         rows = [row[2] for _, _, row in others if row[0] != NAMES]
         is_rising = None not in writes and all(before <= one for before, one in zip(writes, writes[1:]))
         is_once, touched = _touched(others) if self.has_groups else (False, {})
-        stood = list(map(tuple, stood_of(row for _, _, row in others if row[0] == "write" and not row[5]))) if self.has_groups else []
+        stood = [tuple(one) for one in stood_of(row for _, _, row in others if row[0] == "write" and not row[5])] if self.has_groups else []
         index = Index(checks.file, min([checks.first, *rows[:1]] if checks.size else rows[:1], default=0), checks.size + len(rows), checks.size,
                      len(others), list(pairs), list(keys),
                      min((low for low in lows if low is not None), default=None), [one for one in revisions if one not in (None, NEWEST)],
-                     asked, _named(checks, saved), issued, writes, is_rising, plain, joins, last, odd, is_once, touched, stood)  # type: ignore[arg-type]
+                     asked, _named(checks, saved), issued, writes, is_rising, plain, joins, last, odd, is_once, touched, stood)
         return Packed(index, marshal.dumps([*parts, names.part()]), marshal.dumps(tuple(checks)))
 
     def _plain_writes(self, checks: Checks) -> dict[int, bool]:
