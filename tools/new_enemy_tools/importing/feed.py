@@ -1,4 +1,5 @@
 """OpenFGA's changes feed: revisions are places in it, counted from 1 behind the base state, and timestamps are labels."""
+import marshal
 from bisect import bisect_right
 from functools import cached_property
 from itertools import accumulate, starmap
@@ -191,7 +192,7 @@ class Placing:
             return None
         snapshots = numbers[:asked.snapshots]
         revisions = {*snapshots, *(max(place, 0) for place in numbers[asked.snapshots:])}
-        return Packed(index._replace(lowest=min(snapshots, default=None), revisions=list(revisions), asked=Moments([], 0, [], False),
+        return Packed(index._replace(lowest=min(snapshots, default=None), revisions=list(revisions), asked=Moments([], 0, [], False), stood=b"",
                                      writes=list(range(first, first + len(places))), is_rising=True), *given[1:3], first, numbers)
 
     def _place(self, moment: Row, what: str) -> int:
@@ -290,7 +291,7 @@ def _changes(lines: Lines, base: Moment, given: Given, skew: Optional[int],
                 and repeated.take(found.head):
             places += range(len(times) + 1, len(times) + len(found.head.writes) + 1)
             times += found.head.writes
-            stored.take(found.head.file, starmap(Stood, found.head.stood))
+            stored.take(found.head.file, starmap(Stood, marshal.loads(found.head.stood)))
             continue
         for event in _changes_in(found):
             if event.kind == "rules":

@@ -96,8 +96,8 @@ class Index(NamedTuple):
     # where writes are changes of a feed, whether none touches a tuple again that another one of its time does, and what those of the last time touch
     is_once: bool
     touched: dict[Row, bool]
-    # of such changes the tuples that they touch, each the fields of a Stood
-    stood: list[Row]
+    # of such changes the tuples that they touch, as Stood has them; they are looked at once
+    stood: bytes
 
 
 class Packed(NamedTuple):
@@ -298,7 +298,7 @@ class Indexer:
         index = Index(checks.file, min([checks.first, *rows[:1]] if checks.size else rows[:1], default=0), checks.size + len(rows), checks.size,
                      len(others), list(pairs), list(keys),
                      min((low for low in lows if low is not None), default=None), [one for one in revisions if one not in (None, NEWEST)],
-                     asked, _named(checks, saved), issued, writes, is_rising, plain, joins, last, odd, is_once, touched, stood)
+                     asked, _named(checks, saved), issued, writes, is_rising, plain, joins, last, odd, is_once, touched, marshal.dumps(stood))
         return Packed(index, marshal.dumps([*parts, names.part()]), marshal.dumps(tuple(checks)))
 
     def _plain_writes(self, checks: Checks) -> dict[int, bool]:
