@@ -26,10 +26,11 @@ class Circles:
         self.count, self.has_before = 0, False
         self.known: dict[tuple[Node, int, int], bool] = {}
 
-    def take(self, stored: Mapping[Tuple, Touches], before: Iterable[Tuple]) -> None:
+    def take(self, stored: dict[Tuple, Touches], before: Iterable[Tuple]) -> None:
         """Takes what is new of these, and once those of the days before."""
-        given: list[tuple[Tuple, Optional[Touches]]] = list(islice(stored.items(), self.count, None))
-        self.count += len(given)
+        # What is new stands last, and may be little of it.
+        given: list[tuple[Tuple, Optional[Touches]]] = list(islice(reversed(stored.items()), len(stored) - self.count))
+        self.count = len(stored)
         if not self.has_before:
             self.has_before = True
             given += [(one, None) for one in before]
