@@ -114,3 +114,100 @@ class CirclesThatAreTakenAway(Case):
         given = (*RING, change("group:h#member", "editor", "doc:1", at="2024-01-01T00:00:03Z"), change("user:a", at="2024-01-01T00:00:04Z"))
         self.assertEqual(self.struck(*self.words(*given, check(at=4), check("user:a", "editor", allowed=False, at=4))), [])
         self.assertEqual(self.audited(), "entries 2\nfindings 0\nverdict clean\n")
+
+
+GROUPS = ["group:g", "group:h", "group:k"]
+
+
+class Ring:
+    """A random log in which groups come into one another and leave, and an evaluator that knows nothing of the import: `states` has what is
+    stored behind each change, and each check looks at one state, or at some from one to another."""
+
+    def __init__(self, seed):
+        self.random = random = Random(seed)
+        self.states, self.changes, self.checks = [frozenset()], [], []
+        for _ in range(random.randint(20, 50)):
+            self.change()
+            for _ in range(random.randint(0, 3)):
+                high = random.randint(max(0, len(self.changes) - 4), len(self.changes))
+                low = high if random.random() < 0.5 else random.randint(max(0, high - 3), high)
+                self.checks.append((len(self.changes), random.choice(["doc:1", "doc:2"]), random.choice(USERS), low, high))
+
+    def change(self):
+        random, kind = self.random, self.random.random()
+        if kind < 0.5:
+            given = random.choice(GROUPS), "member", random.choice(GROUPS) + "#member"
+        elif kind < 0.6:
+            given = random.choice(GROUPS), "member", random.choice(USERS)
+        elif kind < 0.8:
+            given = random.choice(["doc:1", "doc:2"]), "blocked", random.choice([*GROUPS, GROUPS[0]]) + "#member"
+        else:
+            given = random.choice(["doc:1", "doc:2"]), random.choice(["viewer", "viewer", "blocked"]), random.choice(USERS)
+        self.changes.append((given, given not in self.states[-1]))
+        self.states.append(self.states[-1] ^ {given})
+
+    def held(self, low, high):
+        """All that is stored at some of these states."""
+        return frozenset().union(*self.states[low:high + 1])
+
+    @staticmethod
+    def reached(stored, thing, relation, path=()):
+        """The usersets that one leads to, and whether it leads into a circle."""
+        node = thing, relation
+        if node in path:
+            return {node}, True
+        found, is_circle = {node}, False
+        for of, name, user in stored:
+            if (of, name) == node and "#" in user:
+                more, circles = Ring.reached(stored, *user.split("#"), (*path, node))
+                found, is_circle = found | more, is_circle or circles
+        return found, is_circle
+
+    def is_struck(self, thing, stored):
+        return self.reached(stored, thing, "blocked")[1]
+
+    def holds(self, thing, user, stored):
+        blocked, _ = self.reached(stored, thing, "blocked")
+        return (thing, "viewer", user) in stored and not any((of, name, user) in stored for of, name in blocked)
+
+
+class CirclesAtTheirTime(Case):
+    def test_random_logs(self):
+        self.put("model.json", json.dumps(BLOCKED))
+        struck = kept = 0
+        for seed in range(LOGS):
+            ring = Ring(seed)
+            lines, wanted, may, right = [], set(), set(), []
+            at = [(place, None) for place in range(len(ring.changes))] + [(check[0] - 0.5, check) for check in ring.checks]
+            for place, asked in sorted(at, key=lambda one: one[0]):
+                if asked is None:
+                    (thing, relation, user), live = ring.changes[place]
+                    lines.append(change(user, relation, thing, at="2024-01-01T00:%02d:%02dZ" % divmod(place + 1, 60),
+                                        operation="WRITE" if live else "DELETE"))
+                    continue
+                _, thing, user, low, high = asked
+                number = len(lines) + 1
+                if any(ring.is_struck(thing, state) for state in ring.states[low:high + 1]):
+                    wanted.add(number)
+                elif not ring.is_struck(thing, ring.held(low, high)):
+                    right.append((number, asked))
+                may |= {number} if ring.is_struck(thing, ring.held(low, high)) else set()
+                reply = number not in wanted and ring.holds(thing, user, ring.states[high])
+                made = check(user, "viewer", thing, reply, high)
+                if low < high:
+                    made["snapshot_between"] = [low, high]
+                    del made["snapshot"]
+                lines.append(made)
+            singles = [number for number, (_, thing, user, low, high) in right if low == high]
+            planted = ring.random.choice(singles) if singles else None
+            if planted is not None:
+                lines[planted - 1]["response"]["allowed"] ^= True
+            self.put("log", lines)
+            found = {int(line.split(":")[1]) for line in self.struck("openfga", "--model", "model.json", "--from-empty", "log")}
+            self.assertEqual((wanted - found, found - may), (set(), set()), "seed %d" % seed)
+            self.assertEqual(self.audited().count("F10 wrong reply"), planted is not None, "seed %d" % seed)
+            ever = frozenset().union(*ring.states)
+            struck += len(wanted)
+            kept += sum(ring.is_struck(thing, ever) for number, (_, thing, *_) in right)
+        # Of these some circle was there at another time.
+        self.assertGreater(min(struck, kept), LOGS)

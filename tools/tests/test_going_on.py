@@ -276,9 +276,9 @@ class Numbers(CoreCase):
             numbered({10: 1}, [Named(9, (1 << 64) - APART, 1)])
 
 
-def chained(number, before, *events, is_closed=True):
+def chained(number, before, *events, is_closed=True, **more):
     """A file of tools/record, and its hash."""
-    lines = "".join(json.dumps(one) + "\n" for one in ({"event": "log", "number": number, "before": before}, *events))
+    lines = "".join(json.dumps(one) + "\n" for one in ({"event": "log", "number": number, "before": before, **more}, *events))
     found = hashlib.sha256(lines.encode()).hexdigest()
     return lines + json.dumps({"event": "closed", "count": lines.count("\n"), "sha256": found}) * is_closed, found
 
@@ -312,6 +312,39 @@ class Chains(CoreCase):
             self.assertEqual(status, 2, name)
             self.assertIn(told, said)
         self.assertEqual([self.next_day(name)[0] for name in ("two", "three")], [0, 0])
+
+
+    def test_a_circle_of_the_day_before_that_is_taken_away(self):
+        """Which of its tuples are stored is not known without a state, and then no check that may hang on one is audited."""
+        rules = {"event": "rules", "namespaces": [{"name": "group", "relations": [{"name": "member"}]}, {"name": "doc", "relations": [
+            {"name": "blocked"}, {"name": "viewer", "rewrite": {"exclusion": {"base": {"this": {}}, "subtract": {"computed": "blocked"}}}}]}]}
+        ring = [["group", "g", "member", "group", "h", "member"], ["group", "h", "member", "group", "g", "member"]]
+        stored = [*ring, ["doc", "1", "blocked", "group", "g", "member"], ["doc", "1", "viewer", "user", "a"]]
+        denied = {"event": "check", "goal": stored[-1], "snapshot": 1, "reply": False}
+        first = self.file("one", 1, None, rules, {"event": "write", "revision": 1, "add": stored}, service="openfga")
+        self.file("two", 2, first, denied, {**denied, "goal": ["group", "g", "member", "user", "a"]}, service="openfga")
+        self.assertEqual(self.next_day("one")[0], 0)
+        status, said = self.next_day("two")
+        self.assertEqual(status, 6, said)
+        self.assertIn("not audited 1: check by a rule that takes away what leads into a circle\n", said)
+
+    def test_rules_that_change_the_next_day_in_files_of_another_order(self):
+        def rule(revision, sequence, rewrite):
+            return {"event": "rules", "revision": revision, "sequence": sequence, "namespaces": [{"name": "doc", "relations": [
+                {"name": "viewer"}, {"name": "banned"}, {"name": "reader", "rewrite": rewrite}]}]}
+        self.put("log", [{**one, "sequence": number} for number, one in enumerate((RULES, write(3, rel())), 1)])
+        self.imported("events", "--from-empty", "--go-on", "left", "log")
+        reads = [{**check(at, reply, rel(relation="reader")), "sequence": at} for at, reply in ((5, True), (7, False))]
+        self.put("early", [rule(4, 4, {"computed": "viewer"}), reads[0]])
+        self.put("late", [rule(6, 6, {"this": {}}), reads[1]])
+        status, said = self.run_import("events", "--sequence-has-holes", "--go-on", "left", "--trace", "next", "late", "early")
+        self.assertEqual(status, 0, said)
+        self.put("both", self.get("trace.jsonl") + self.get("next"))
+        self.assertIn("findings 0\n", self.audited("both"))
+        # The third day begins with the rules that the last one ended with.
+        self.put("third", [{key: value for key, value in rule(6, 8, {"this": {}}).items() if key != "revision"}, {**reads[1], "sequence": 9}])
+        status, said = self.run_import("events", "--sequence-has-holes", "--go-on", "left", "--trace", "next", "third")
+        self.assertEqual(status, 0, said)
 
 
 class Refusals(CoreCase):

@@ -3,6 +3,7 @@ import json
 import os
 import re
 
+from new_enemy_tools import limits
 from tests.random_models import RandomLog, json_of
 from tests.support import Case
 from tests.test_openfga import change, check
@@ -115,6 +116,12 @@ class TightenedModels(Case):
         found, = self.refused(*self.words(model(["user"], "first"), change("user:a"), {"authorization_model": odd}, check(at=1, request=of("odd"))))
         self.assertTrue(found.startswith("log:2: recursion through exclusion, by the rule of doc#viewer of model odd: "), found)
         self.assertIn(" at log:2", found)
+        deep = ("this",)
+        for _ in range(limits.DEPTH):
+            deep = "union", [deep]
+        deep = json_of({"doc": {"viewer": (["user"], deep)}}, "odd")
+        self.assertEqual(self.refused(*self.words(model(["user"], "first"), change("user:a"), {"authorization_model": deep},
+                                                  check(at=1, request=of("odd")))), ["log:2: the rule of doc#viewer of model odd is deeper than %d" % limits.DEPTH])
 
     def test_a_model_without_an_id_is_one_of_the_log(self):
         first = {key: value for key, value in model(["user"], "").items() if key != "id"}

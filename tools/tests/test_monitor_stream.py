@@ -8,6 +8,7 @@ from random import Random
 from unittest import mock
 
 from new_enemy_tools.ids import Ids
+from new_enemy_tools.importing import causes
 from new_enemy_tools.importing.times import nanoseconds
 from new_enemy_tools.monitoring import holding as holding_of
 from new_enemy_tools.monitoring.faults import MonitorFault
@@ -16,6 +17,7 @@ from new_enemy_tools.monitoring.midnights import NoZone, midnight_after, zone_of
 from new_enemy_tools.monitoring.run import Begun, Run
 from new_enemy_tools.monitoring.stream import Chunk
 from new_enemy_tools.windowing.run import NOTHING
+from tests.test_circles import Ring
 from tests.test_core import CoreCase, check, content, rel, write
 from tests.test_going_on import NEWLY_READ, READ, RULES, UNREAD, between, events_of
 
@@ -42,6 +44,7 @@ class Streamed(CoreCase):
             now += WRITE_WAIT * random.random() if at < len(lines) else 1e7
             for chunk in holding.ready(run.stream.issues, run.stream.last_revision(), now).chunks:
                 text += run.take(chunk)
+        self.begun = run
         return text
 
     def report(self, trace):
@@ -68,6 +71,34 @@ class Streamed(CoreCase):
             found += self.compare([RULES, BASE, *events_of(random, 60)], random, number % 2 == 0)
         for finding in ("F1", "F2", "F3", "F4", "F5", "F6", "F10"):
             self.assertIn(finding, found)
+
+    def test_denials_by_circles_that_are_taken_away(self):
+        """They are left out by their cause where the service denies them, and each other one is audited."""
+        rules = {"event": "rules", "namespaces": [{"name": "group", "relations": [{"name": "member"}]}, {"name": "doc", "relations": [
+            {"name": "blocked"}, {"name": "viewer", "rewrite": {"exclusion": {"base": {"this": {}}, "subtract": {"computed": "blocked"}}}}]}]}
+
+        def stored(thing, relation, user):
+            return [*thing.split(":"), relation, *user.replace("#", ":").split(":")]
+        struck = 0
+        for seed in range(12):
+            ring, random = Ring(seed), Random("circles of a monitor %d" % seed)
+            for service in "openfga", "spicedb":
+                events, wanted, last = [], 0, 0
+                for place, thing, user, _, high in [*ring.checks, (len(ring.changes), "doc:1", "user:a", 0, len(ring.changes))]:
+                    for number in range(last, place):
+                        given, live = ring.changes[number]
+                        events.append({"event": "write", "revision": number + 1, "add": [stored(*given)] if live else [],
+                                       **({} if live else {"remove": [stored(*given)]})})
+                    last = place
+                    is_denied = service == "openfga" and ring.is_struck(thing, ring.states[high])
+                    wanted += is_denied
+                    events.append({"event": "check", "goal": stored(thing, "viewer", user), "snapshot": high,
+                                   "reply": not is_denied and ring.holds(thing, user, ring.states[high])})
+                text = self.stream([{"event": "log", "number": 1, "before": None, "service": service}, rules, BASE, PLACE, *events], random)
+                self.assertEqual(self.begun.stream.refusals.not_audited, {causes.CIRCLE_TAKEN_AWAY: wanted} if wanted else {}, seed)
+                self.assertNotIn("F10", self.report(text), seed)
+                struck += wanted
+        self.assertGreater(struck, 12)
 
     def test_checks_that_asked_for_the_newest_state(self):
         """They demand that of their version too, whenever that was issued."""

@@ -1,7 +1,9 @@
 """Writes that a log has in the calls that made them; changes that were read twice; and calls within events of CloudEvents."""
 import json
 import os
+from unittest import mock
 
+from new_enemy_tools.importing import located
 from tests import test_openfga, test_postgres, test_spicedb
 from tests.support import Case
 from tests.test_openfga import MODEL, THIS, change
@@ -108,6 +110,30 @@ class SpiceDb(Case):
         self.assertEqual(self.report({"request": {"optionalObjectTypes": []}, "response": seen}, test_spicedb.check(1)),
                          "entries 1\nfindings 0\nverdict clean\n")
 
+    def test_a_stream_that_begins_behind_what_the_log_has_is_refused(self):
+        """What was written between is in no line, so that a stale reply would be right."""
+        def asked(start, *seen):
+            return [{"request": {"optionalStartCursor": {"token": token_text(start)}}, "response": one} for one in seen]
+        first, second, checkpoint = watch(3, update("user:a")), watch(7, update("user:b")), watch(5, isCheckpoint=True)
+        words = "spicedb", "--schema", "schema.zed", "--base", "base", "--base-at", "2", "log"
+        self.put("base", "doc:1#viewer@user:c\n")
+        said = ["the watch stream begins behind all that the log has before it, by the `optionalStartCursor` of its request, and what was written "
+                "between is not there: give the whole stream, or a base state of where it begins"]
+        for wanted, log in (([], asked(2, first, second)), ([], asked(1, first, second)), (["log:1"], asked(3, second)),
+                            ([], [*asked(2, first), *asked(3, second)]), (["log:2"], [*asked(2, first), *asked(6, second)]),
+                            ([], [*asked(2, first, checkpoint), *asked(5, second)]), (["log:2"], [*asked(2, first), *asked(5, second, checkpoint)]),
+                            ([], [first, *asked(3, second)]), (["log:1"], [*asked(4, second), written(8, update("user:a"))])):
+            self.put("schema.zed", SCHEMA % VIEW)
+            self.put("log", [*log, self.check(9, "user:c")])
+            if wanted:
+                self.assertEqual(self.refused(*words), ["%s: %s" % (place, said[0]) for place in wanted])
+            else:
+                self.imported(*words)
+                self.assertIn("findings 0\n", self.audited())
+                self.forget()
+        # Of a store that was empty at first it is the premise that the first stream begins there.
+        self.assertIn("findings 0\n", self.report(*asked(3, second), self.check(9, "user:b")))
+
     def test_what_a_status_says(self):
         asked = {"request": self.check(1)["request"]}
         fine = [self.check(1, status=status) for status in ("OK", 200, "200 OK", {"code": 0}, {"code": "OK"}, {"code": "Ok"})]
@@ -192,7 +218,7 @@ class OpenFga(Case):
         stale = self.check(at=AT % 5)
         self.assertEqual(self.refused(*self.words(written, self.write(None, deletes=["user:a"]), stale)), ["log:2: " + self.UNSEEN])
         for side, key in ("writes", "on_duplicate"), ("deletes", "onMissing"):
-            odd = self.write(2, ["user:a"], ["user:c"])
+            odd = self.write(2, ["user:d"], ["user:c"])
             odd["request"][side][key] = "ignore"
             self.assertEqual(self.refused(*self.words(written, odd, stale)), ["log:2: " + self.UNSEEN])
             shown = change("user:a"), change("user:b")
@@ -203,6 +229,42 @@ class OpenFga(Case):
             self.assertEqual(self.report(written, odd, self.check(at=AT % 1)), "entries 1\nfindings 0\nverdict clean\n")
             os.remove(self.path("trace.jsonl"))
             os.remove(self.path("ids.jsonl"))
+
+    def test_a_tuple_that_is_written_twice_says_that_a_change_is_missing(self):
+        """A deletion between them, which made a stale reply right."""
+        again, gone = change("user:a", at=AT % 5), change("user:a", at=AT % 3, operation="DELETE")
+        said = ("this change writes a tuple that is stored already, and the service refuses that: a change before it is missing, or the base "
+                "state is of another time")
+        padding = [change("user:%d" % number, at=AT % 4) for number in range(9)]
+        for between in (), padding, [self.check(at=1)] * 3 + padding:
+            log = change("user:a"), *between, again
+            self.assertEqual(self.refused(*self.words(*log, self.check(at=2 + len(between)))), ["log:%d: %s" % (len(log), said)])
+            self.report(log[0], gone, *log[1:], self.check(at=1))
+            self.forget()
+        self.put("base", [{"key": {"user": "user:a", "relation": "viewer", "object": "doc:1"}}])
+        self.put("model.json", MODEL % THIS)
+        self.put("log", [again, self.check(at=5)])
+        words = "openfga", "--model", "model.json", "--base", "base", "--base-at", "4", "log"
+        self.assertEqual(self.refused(*words), ["log:1: " + said])
+        # A page that was read twice is one.
+        self.report(change("user:a"), change("user:a"), self.check(at=1))
+        self.forget()
+
+    def test_a_tuple_that_is_written_twice_in_two_blocks(self):
+        lines = [change("user:%d" % number, at="2024-01-01T00:00:%02d.%03dZ" % (number // 500, number)) for number in range(500)]
+        gone = change("user:7", at=AT % 1, operation="DELETE")
+        for places in (450,), (450, 451), (3, 450):
+            log = list(lines)
+            for place in places:
+                log[place] = {**log[7], "timestamp": log[place]["timestamp"]}
+            # One deletion goes with one more write.
+            for more, wanted in (((), True), ((gone,), len(places) > 1)):
+                given = [*log[:400], *({**one, "timestamp": log[400]["timestamp"]} for one in more), *log[400:], *[self.check("user:9", at=20)] * 30]
+                with mock.patch.object(located, "BLOCK", 4000):
+                    status, said = self.run_import(*self.words(*given), "--jobs", "1")
+                self.assertEqual((status, "this change writes a tuple that is stored already" in said), (2 if wanted else 0, wanted), places)
+                if not wanted:
+                    self.forget()
 
     def test_a_write_behind_the_changes_that_they_do_not_show(self):
         """A reply behind it may be stale, or right by what was written; what is certainly before it is audited."""

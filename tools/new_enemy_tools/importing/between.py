@@ -16,21 +16,20 @@ STATES = 1_000
 
 
 class Spans:
-    """The revisions that some check looks at, which are gone through where one is asked for."""
+    """The revisions that some check looks at, many at a time, and from where to where others look; these are gone through where one is asked
+    for."""
 
-    def __init__(self, spans: Iterable[tuple[int, int]]):
-        self.spans: Optional[Iterable[tuple[int, int]]] = spans
+    def __init__(self, spans: Iterable[tuple[list[int], list[tuple[int, int]]]]):
+        self.spans: Optional[Iterable[tuple[list[int], list[tuple[int, int]]]]] = spans
         self.points: set[int] = set()
         self.starts: list[int] = []
         self.ends: list[int] = []
 
-    def _gather(self, spans: Iterable[tuple[int, int]]) -> None:
+    def _gather(self, spans: Iterable[tuple[list[int], list[tuple[int, int]]]]) -> None:
         wide: set[tuple[int, int]] = set()
-        for low, high in spans:
-            if low == high:
-                self.points.add(low)
-            else:
-                wide.add((low, high))
+        for points, some in spans:
+            self.points.update(points)
+            wide.update(some)
         for low, high in sorted(wide):
             if self.ends and low <= self.ends[-1]:
                 self.ends[-1] = max(high, self.ends[-1])

@@ -18,8 +18,9 @@ Made = tuple[Read, Refusals]
 POOLS = 8
 
 ASKED, ANSWER, END = (b'"%s"' % mark.encode() for mark in (REQUEST, RESPONSE, FINISHED))
-ENDED = re.compile(rb'"message"[ \t]*:[ \t]*"%s"' % FINISHED.encode())
-PLAIN_ID = b'"requestID":"'
+# As a line has them nearly always, and as it may have them.
+PLAIN_END, ENDED = b'"message":%s' % END, re.compile(rb'"message"[ \t]*:[ \t]*%s' % END)
+PLAIN_ID, PLAIN_SERVICE = b'"requestID":"', b'"grpc.service":"authzed.'
 REQUEST_ID = re.compile(rb'"(?:requestID|requestId|request_id)"[ \t]*:[ \t]*"([^"\\]*)"')
 STREAM = re.compile(rb'"grpc\.method_type"[ \t]*:[ \t]*"[^"\\]*stream"')
 HEALTH = re.compile(rb'"grpc\.service"[ \t]*:[ \t]*"grpc\.')
@@ -69,19 +70,25 @@ def _parsed_steps(block: Block) -> list[Step]:
 
 def step_in(line: bytes) -> Optional[Step]:
     """What a line that is not parsed does to what waits, by its letters."""
-    kind = 0 if ASKED in line else 1 if ANSWER in line else 2
-    if kind == 2 and (END not in line or ENDED.search(line) is None):
+    if ASKED in line:
+        kind = 0
+    elif ANSWER in line:
+        kind = 1
+    elif PLAIN_END in line or END in line and ENDED.search(line) is not None:
+        kind = 2
+    else:
         return None
-    at = line.find(PLAIN_ID)
-    found: Optional[bytes] = None
-    if at >= 0:
-        found = line[at + len(PLAIN_ID):line.find(b'"', at + len(PLAIN_ID))]
-    elif (other := REQUEST_ID.search(line)) is not None:
-        found = other[1]
-    if found is None and kind < 2 or b'"grpc.service":"authzed.' not in line and HEALTH.search(line):
+    at = line.find(PLAIN_ID) + len(PLAIN_ID)
+    if at >= len(PLAIN_ID):
+        found = line[at:line.find(b'"', at)]
+    else:
+        other = REQUEST_ID.search(line)
+        if other is None and kind < 2:
+            return None
+        found = b"" if other is None else other[1]
+    if PLAIN_SERVICE not in line and HEALTH.search(line):
         return None
-    is_stream = kind == 1 and b'stream"' in line and STREAM.search(line) is not None
-    return Step(kind, (found or b"").decode(errors="replace"), is_stream)
+    return kind, found.decode("utf-8", "replace"), kind == 1 and b'stream"' in line and STREAM.search(line) is not None
 
 
 class Carrying:
@@ -94,24 +101,25 @@ class Carrying:
     def carried(self, blocks: Iterable[tuple[Place, Block]]) -> Iterator[Carried]:
         for place, block in blocks:
             steps = list(steps_in(block))
-            named = {step.found for _, _, step in steps}
+            named = {found for _, _, (_, found, _) in steps}
             yield Carried(place, {one: self.waiting[one] for one in named & self.waiting.keys()}, [one for one in self.answered if one in named])
             for number, line, step in steps:
                 self._take(number, line, step)
 
     def _take(self, number: int, line: bytes, step: Step) -> None:
         """As Joining has it."""
-        if step.kind == 0:
-            self.waiting[step.found] = line, number
-        elif step.kind == 2:
-            self.waiting.pop(step.found, None)
-            self.answered.pop(step.found, None)
-        elif step.found in self.waiting:
-            self.answered[step.found] = None
+        kind, found, is_stream = step
+        if kind == 0:
+            self.waiting[found] = line.strip(BLANK), number
+        elif kind == 2:
+            self.waiting.pop(found, None)
+            self.answered.pop(found, None)
+        elif found in self.waiting:
+            self.answered[found] = None
             if len(self.answered) > ANSWERED:
                 del self.answered[next(iter(self.answered))]
-            if not step.is_stream:
-                del self.waiting[step.found]
+            if not is_stream:
+                del self.waiting[found]
 
     def left(self) -> list[tuple[int, Optional[str]]]:
         """The lines of requests that no line answered, and their calls."""
@@ -130,7 +138,7 @@ def steps_in(block: Block) -> Iterator[tuple[int, bytes, Step]]:
     for number, line in enumerate(block.data.split(b"\n"), block.first):
         step = step_in(line)
         if step is not None:
-            yield number, line.strip(BLANK), step
+            yield number, line, step
 
 
 class Blocks:

@@ -12,6 +12,7 @@ from new_enemy_tools.importing.wildcards import Wildcards
 from new_enemy_tools.texts import Tuple, Userset
 
 ROOM = limits.LINE_BYTES - 64_000
+Touches = list[tuple[int, bool]]
 
 
 class Touch(NamedTuple):
@@ -63,7 +64,8 @@ class Writer:
     def __init__(self, declared: Declared, wildcards: Wildcards, ids: Ids, edges: Edges, refusals: Refusals):
         self.declared, self.wildcards, self.ids, self.edges, self.refusals = declared, wildcards, ids, edges, refusals
         self.tuple_edges = TupleEdges(declared.rules)
-        self.stored: dict[Tuple, None] = {}
+        # the tuples of usersets that were ever stored, each with the revisions that touch it and whether it is stored from there on
+        self.stored: dict[Tuple, Touches] = {}
         # what stands around an object id in tuples of users, by type and relation
         self.around: dict[tuple[str, str], tuple[str, str]] = {}
 
@@ -75,8 +77,7 @@ class Writer:
             for relationship in given:
                 for one in self._tuples(event, relationship):
                     self._touch(commit, Touch(event.file, event.line, texts_of is commit.add), one, relationship)
-                    if texts_of is commit.add:
-                        self._store(event, one, relationship)
+                    self._store(event, one, relationship, texts_of is commit.add)
                     texts_of.append(self.text(one))
 
     def commit_of(self, rows: list[tuple[Any, ...]]) -> tuple[Any, ...]:
@@ -127,11 +128,14 @@ class Writer:
             self.refusals.refuse(touch.file, touch.line, "%s is touched twice in one commit, at %s:%d too"
                                  % (told, before.file, before.line))
 
-    def _store(self, event: Event, given: Tuple, told: Relationship) -> None:
-        if isinstance(given.user, Userset) and given not in self.stored:
-            self.stored[given] = None
+    def _store(self, event: Event, given: Tuple, told: Relationship, live: bool) -> None:
+        if not isinstance(given.user, Userset) or not live and given not in self.stored:
+            return
+        if given not in self.stored:
+            self.stored[given] = []
             for edge in self.tuple_edges.of(given):
                 self.edges.add(edge, Reason(event.file, event.line, "tuple %s" % (told,), True))
+        self.stored[given].append((event.revision or 0, live))
 
     def text(self, given: Tuple) -> str:
         user = given.user

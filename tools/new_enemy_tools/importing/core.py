@@ -15,7 +15,7 @@ from new_enemy_tools.importing.ahead import Ahead
 from new_enemy_tools.importing.between import STATES, Asked, Spans
 from new_enemy_tools.importing.commits import Commit, Writer
 from new_enemy_tools.importing.declared import Declared
-from new_enemy_tools.importing.doubts import Doubts
+from new_enemy_tools.importing.doubts import Circles, Doubts
 from new_enemy_tools.importing.events import Entry, Event
 from new_enemy_tools.importing.going_on import Left
 from new_enemy_tools.importing.newest import put_newest
@@ -77,6 +77,7 @@ class Core:
         self.commits_before = 0
         self.oldest: Optional[int] = None
         self.counts = Counts()
+        self.circles = Circles()
         # of tuples that are left out the namespaces and relations of both sides, by the names of the trace
         self.circular: set[Pair] = set()
         # the first number of the sequence that no line has, also on the days before, and the last that one has
@@ -249,7 +250,7 @@ class Core:
     def _kept(self) -> Iterator[bytes]:
         """The batches of the spool, without checks that hang on what was left out, and versions that are not known by all lines."""
         refusals, doubts = self.refusals, self._doubts()
-        doubts.spread(self._stored(), refusals.denies_circles)
+        self._spread(doubts)
         if not (doubts or refusals.versions or refusals.has_lost_version or refusals.gap_since is not None):
             yield from self.taken.items.batches()
             return
@@ -267,10 +268,26 @@ class Core:
         """Whether a commit ends at a revision; each that is named is one at which one does."""
         return revision in self.taken.wanted
 
+    def _spread(self, doubts: Doubts) -> None:
+        """Finds out what is in doubt. Where the tuples of the days before are not known, all of a relation that may hang on a circle is."""
+        is_known = self._before is None or self.goes_on is not None and self.goes_on.state is not None
+        doubts.spread(self._stored(), self.refusals.denies_circles and is_known)
+        if doubts.denied:
+            doubts.circles = self._circles()
+        elif self.refusals.denies_circles and not is_known:
+            doubts.take_circling()
+
+    def _circles(self) -> Circles:
+        self.circles.take(self.writer.stored, self._stored_before())
+        return self.circles
+
     def _stored(self) -> Iterable[Tuple]:
-        """The tuples of usersets ever, by the names of the service; of the days before those of the state."""
-        before = () if self.goes_on is None or self.goes_on.state is None else going_on.stored_in(self.goes_on.state, self.ids)
-        return chain(self.writer.stored, before)
+        """The tuples of usersets ever, by the names of the service."""
+        return chain(self.writer.stored, self._stored_before())
+
+    def _stored_before(self) -> Iterable[Tuple]:
+        """The tuples of usersets of the days before that the state has, by the names of the service."""
+        return () if self.goes_on is None or self.goes_on.state is None else going_on.stored_in(self.goes_on.state, self.ids)
 
     def _doubts(self) -> Doubts:
         """What is in doubt; where the tuples of the days before are not known, whole relations are."""
@@ -288,14 +305,14 @@ class Core:
         """Whether a row is perhaps not kept as it is."""
         if row[0] not in CHECKS:
             return bool(self.circular) and row[0] == "commit"
-        return doubts.cause(Userset(*row[3][:3])) is not None or row[0] == "check" and row[8] is not None
+        return doubts.cause(Userset(*row[3][:3]), None, None) is not None or row[0] == "check" and row[8] is not None
 
     def _kept_row(self, row: tuple[Any, ...], doubts: Doubts) -> Optional[tuple[Any, ...]]:
         """A row as it is kept; None of a check that is not audited."""
         if row[0] not in CHECKS:
             return self._without_circular(row) if self.circular and row[0] == "commit" else row
         entry = Entry._make(row)
-        cause = doubts.cause(Userset(*entry.goal[:3]))
+        cause = doubts.cause(Userset(*entry.goal[:3]), entry.snapshot if entry.lowest is None else entry.lowest, entry.snapshot)
         if cause is not None:
             self.refusals.unmapped_check(entry, cause, entry.told)
             if entry.kind == "content" and entry.version is not None:

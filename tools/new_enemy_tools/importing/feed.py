@@ -1,7 +1,8 @@
 """OpenFGA's changes feed: revisions are places in it, counted from 1 behind the base state, and timestamps are labels."""
+import marshal
 from bisect import bisect_right
 from functools import cached_property
-from itertools import accumulate
+from itertools import accumulate, starmap
 from typing import Any, Callable, Iterable, Iterator, NamedTuple, Optional, Union, cast
 
 from new_enemy_tools.importing.called import Unshown
@@ -10,15 +11,17 @@ from new_enemy_tools.importing.checks import Row
 from new_enemy_tools.importing.events import Entry, Event, Relationship, is_whole
 from new_enemy_tools.importing.models import BEFORE, Given, Models, OtherModel, TwoModels
 from new_enemy_tools.importing.order import ordered
-from new_enemy_tools.importing.packed import Index, Odd, Packed
+from new_enemy_tools.importing.packed import Index, Moments, Odd, Packed, Stood, stood_of
 from new_enemy_tools.importing.reading import Bad
 from new_enemy_tools.importing.refusals import Refusals
 from new_enemy_tools.importing.spool import CHECKS, Lines, WriteRow, row_of
 from new_enemy_tools.importing.times import nanoseconds
 
 NOT_TAKEN = "tuple that the model does not take"
-# The places of so many moments are known at once.
-MOST = 1 << 15
+# The places of so many moments are known at once; and so many tuples that are stored, behind which none is looked at any more.
+MOST, MOST_STORED = 1 << 15, 1 << 20
+STORED = ("this change writes a tuple that is stored already, and the service refuses that: a change before it is missing, or the base state is "
+          "of another time")
 
 NO_SNAPSHOT = ("the check has none of `snapshot` and `snapshot_between`, and OpenFGA does not say which state it looked at: run `ne record`, "
                "or add one of them to each line")
@@ -175,22 +178,21 @@ class Placing:
         index = given.head
         first = places[0] if places else 0
         # By their sequences changes may stand in another order than their lines.
-        if not self.models.is_plain or first is None or places != list(range(first, first + len(places))) or any(
+        if not self.models.is_plain or index.asked.is_between or first is None or places != list(range(first, first + len(places))) or any(
                 self.models.takes((of, relation, user_type, None)) != [(relation, None)] for of, relation, user_type in index.keys):
             return None
-        numbers: dict[Row, tuple[int, Optional[int]]] = {}
+        asked = index.asked
         try:
-            for asked in index.asked:
-                moments, token, model = asked
-                if len(moments) > 1:
-                    return None
-                snapshot = self._place(moments[0], "snapshot")
-                self.models.name_at("", model, snapshot, snapshot)
-                numbers[asked] = snapshot, None if token is None else max(self._place(token, "token"), 0)
+            numbers = [self._place(moment, "snapshot") for moment in asked.listed]
+            for model in asked.models:
+                # One that names none is of the model that is in force at its place.
+                for place in set(numbers[:asked.snapshots]) if model is None and len(self.models.used) > 1 else (0,):
+                    self.models.name_at("", model, place, place)
         except (OtherModel, TwoModels, Bad):
             return None
-        named = {one for numbered in numbers.values() for one in numbered if one is not None}
-        return Packed(index._replace(lowest=min((snapshot for snapshot, _ in numbers.values()), default=None), revisions=list(named), asked=[],
+        snapshots = numbers[:asked.snapshots]
+        revisions = {*snapshots, *(max(place, 0) for place in numbers[asked.snapshots:])}
+        return Packed(index._replace(lowest=min(snapshots, default=None), revisions=list(revisions), asked=Moments([], 0, [], False), stood=b"",
                                      writes=list(range(first, first + len(places))), is_rising=True), *given[1:3], first, numbers)
 
     def _place(self, moment: Row, what: str) -> int:
@@ -279,6 +281,7 @@ def _changes(lines: Lines, base: Moment, given: Given, skew: Optional[int],
     # Rows of writes have the fields that order them.
     in_order: Iterable[Any] = ordered(cast("list[Event]", as_read), skew, Refusals()) if are_sorted else changes()
     repeated = Repeated(event.revision for event in in_order if event.kind != "rules") if are_sorted else Repeated(_times(lines))
+    stored = Stored(lines, refusals)
     starts = [(BEFORE, model) for model in range(given.first)]
     times: list[int] = []
     places: list[Optional[int]] = []
@@ -288,6 +291,7 @@ def _changes(lines: Lines, base: Moment, given: Given, skew: Optional[int],
                 and repeated.take(found.head):
             places += range(len(times) + 1, len(times) + len(found.head.writes) + 1)
             times += found.head.writes
+            stored.take(found.head.file, starmap(Stood, marshal.loads(found.head.stood)))
             continue
         for event in _changes_in(found):
             if event.kind == "rules":
@@ -299,6 +303,7 @@ def _changes(lines: Lines, base: Moment, given: Given, skew: Optional[int],
             is_again = repeated.has(event)
             if not is_again:
                 times.append(event.revision)
+                stored.take(event.file, stood_of([event if isinstance(event, tuple) else row_of(event)]))
             if are_sorted:
                 by_event[id(event)] = None if is_again else len(times)
             else:
@@ -368,11 +373,34 @@ class Repeated:
         return is_again
 
 
+class Stored:
+    """The tuples that are stored, in short. A write of one that is says that a change is missing, where none was left out."""
+
+    def __init__(self, lines: Lines, refusals: Refusals):
+        self.refusals = refusals
+        self.keys: set[int] = set()
+        self.is_known = not refusals.left_out
+        for event in lines.events() if lines.facts.last_base >= 0 else ():
+            if isinstance(event, WriteRow) and event.base:
+                self.keys.update(map(hash, map(tuple, event.add)))
+
+    def take(self, file: str, changes: Iterable[Stood]) -> None:
+        """Takes the changes that are next in order."""
+        self.is_known &= len(self.keys) <= MOST_STORED
+        for one in changes if self.is_known else ():
+            if one.is_again or one.first and one.key in self.keys:
+                self.refusals.refuse(file, one.line, STORED)
+            if one.last:
+                self.keys.add(one.key)
+            else:
+                self.keys.discard(one.key)
+
+
 def _asked(lines: Lines) -> Iterator[Optional[str]]:
     """The models that checks name; of many together once."""
     for found in lines.stream():
         if isinstance(found, Packed):
-            yield from (asked[2] for asked in found.head.asked)
+            yield from found.head.asked.models
         for row in (odd.row for odd in found.head.odd) if isinstance(found, Packed) else (found,):
             if isinstance(row, tuple) and row[0] in CHECKS and row[11]:
                 yield row[11][2]

@@ -6,7 +6,7 @@ is taken row by row, among the others.
 import marshal
 from itertools import groupby
 from operator import itemgetter
-from typing import Callable, Collection, Iterator, NamedTuple, Optional
+from typing import Any, Callable, Collection, Iterable, Iterator, Mapping, NamedTuple, Optional
 
 from new_enemy_tools.edges import Name
 from new_enemy_tools.ids import Ids
@@ -18,6 +18,8 @@ FEW = 1_000
 Run = tuple[str, str, list[str]]
 # Where a version was saved: the type and id of its object, and its label.
 Version = tuple[str, str, str]
+# By the moments of a feed their places in it.
+Numbers = Mapping[Row, int]
 
 
 class Odd(NamedTuple):
@@ -31,14 +33,35 @@ class Odd(NamedTuple):
 
 
 class Issued(NamedTuple):
-    """A version that a content check saves, by its place."""
+    """A version that a content check saves, by its place; `asked` are its snapshot and its token among the moments."""
 
     version: Version
     goal: Row
     snapshot: Optional[int]
     token: Optional[int]
-    asked: Optional[Row]
+    asked: Optional[tuple[int, Optional[int]]]
     line: int
+
+
+class Stood(NamedTuple):
+    """A tuple in short, whether the first change of it and the last one of some add it, and the line of the first, or of one that adds it
+    behind another one that does."""
+
+    key: int
+    first: bool
+    last: bool
+    line: int
+    is_again: bool
+
+
+class Moments(NamedTuple):
+    """What is asked of a feed: moments, each once, those of snapshots first, of which there are so many; the models; and whether something
+    looks between two moments."""
+
+    listed: list[Row]
+    snapshots: int
+    models: list[Optional[str]]
+    is_between: bool
 
 
 class Index(NamedTuple):
@@ -54,10 +77,11 @@ class Index(NamedTuple):
     # the types and relations that are named, and of plain writes these with the types of their users
     pairs: list[Name]
     keys: list[tuple[str, str, str]]
-    # the lowest snapshot, the revisions that are named, and what is asked where these have no numbers yet
+    # the lowest snapshot, and the revisions that are named
     lowest: Optional[int]
     revisions: list[int]
-    asked: list[Row]
+    # where these have no numbers yet
+    asked: Moments
     # the versions that are named and were not saved before within the block; and those that are saved
     named: list[Version]
     issued: list[Issued]
@@ -72,40 +96,46 @@ class Index(NamedTuple):
     # where writes are changes of a feed, whether none touches a tuple again that another one of its time does, and what those of the last time touch
     is_once: bool
     touched: dict[Row, bool]
+    # of such changes the tuples that they touch, as Stood has them; they are looked at once
+    stood: bytes
 
 
 class Packed(NamedTuple):
     """A block; `names` are what gets a number up to each row that is taken by itself, and behind the last. Where revisions are places in a
-    feed, `first` is that of its first write, and `numbers` are the snapshot and the token of what is asked."""
+    feed, `first` is that of its first write, and `places` are those of its moments."""
 
     head: Index
     names: bytes
     data: bytes
     first: Optional[int] = None
-    numbers: Optional[dict[Row, tuple[int, Optional[int]]]] = None
+    places: Optional[list[int]] = None
 
     def dumped(self) -> bytes:
         odd, issued = [tuple(one) for one in self.head.odd], [tuple(one) for one in self.head.issued]
-        head = self.head._replace(odd=odd, issued=issued)  # type: ignore[arg-type]
+        head = self.head._replace(odd=odd, issued=issued, asked=tuple(self.head.asked))  # type: ignore[arg-type]
         return marshal.dumps((tuple(head), *self[1:]))
 
     def checks(self) -> Checks:
-        return numbered(Checks(*marshal.loads(self.data)), self.numbers)
+        checks = Checks(*marshal.loads(self.data))
+        return numbered(checks, self._numbers(checks))
+
+    def _numbers(self, checks: Checks) -> Optional[Numbers]:
+        return numbers_of(checks, {one.place for one in self.head.odd}, self.places)
 
     def kept(self, rows: list[tuple[int, int, Row]]) -> bytes:
         """The block as it is kept: these rows in place of those that were taken by themselves."""
-        return marshal.dumps((self.data, [odd.place for odd in self.head.odd], rows, self.first, self.numbers))
+        return marshal.dumps((self.data, [odd.place for odd in self.head.odd], rows, self.first, self.places))
 
     def among(self) -> Iterator[tuple[int, Row]]:
         """The rows among the checks with the number of checks before each."""
-        odd = {one.place: one.row for one in self.head.odd}
-        writes, base = 0, (self.first or 0)
-        for place, (at, _, row) in enumerate(Checks(*marshal.loads(self.data)).others):
+        odd, checks = {one.place: one.row for one in self.head.odd}, Checks(*marshal.loads(self.data))
+        writes, base, numbers = 0, (self.first or 0), self._numbers(checks)
+        for place, (at, _, row) in enumerate(checks.others):
             is_write = row[0] == "write" and not row[5]
             if place in odd:
                 row = odd[place]
             elif row[0] != NAMES:
-                row = placed_row(row, None if self.first is None else base + writes, self.numbers)
+                row = placed_row(row, None if self.first is None else base + writes, numbers)
             writes += is_write
             if row[0] != NAMES:
                 yield at, row
@@ -121,30 +151,49 @@ class Packed(NamedTuple):
         yield from entries
 
 
-def packed_of(found: tuple[object, ...]) -> Packed:
+def packed_of(found: tuple[Any, ...]) -> Packed:
     """What `dumped` gives, when it was loaded."""
     index, *rest = found
-    made = Index(*index)  # type: ignore[misc]
-    return Packed(made._replace(odd=[Odd(*one) for one in made.odd], issued=[Issued(*one) for one in made.issued]), *rest)  # type: ignore[arg-type]
+    made = Index(*index)
+    return Packed(made._replace(odd=[Odd(*one) for one in made.odd], issued=[Issued(*one) for one in made.issued], asked=Moments(*made.asked)),
+                  *rest)
 
 
-def numbered(checks: Checks, numbers: Optional[dict[Row, tuple[int, Optional[int]]]]) -> Checks:
+def moments_of(checks: Checks, contents: Collection[int]) -> Moments:
+    """What a block asks of a feed, with its content checks at these places."""
+    asked = [look[5] for look in checks.looks] + [checks.others[place][2][11] for place in sorted(contents)]
+    snapshots = dict.fromkeys([moment for moments, _, _ in asked for moment in moments])
+    found = {**snapshots, **dict.fromkeys([token for _, token, _ in asked])}
+    found.pop(None, None)
+    return Moments(list(found), len(snapshots), list(dict.fromkeys([model for _, _, model in asked])),
+                   any(len(moments) > 1 for moments, _, _ in asked))
+
+
+def numbers_of(checks: Checks, odd: Collection[int], places: Optional[list[int]]) -> Optional[Numbers]:
+    """The places of what a block asks, where some rows are taken by themselves."""
+    if places is None:
+        return None
+    contents = {place for place, (_, _, row) in enumerate(checks.others) if row[0] == "content" and place not in odd}
+    return dict(zip(moments_of(checks, contents).listed, places))
+
+
+def numbered(checks: Checks, numbers: Optional[Numbers]) -> Checks:
     """Checks with numbers for what is asked."""
     if numbers is None:
         return checks
     return checks._replace(looks=[
-        (reply, numbers[asked][0], shown, token if numbers[asked][1] is None else numbers[asked][1], version, None)
-        for reply, _, shown, token, version, asked in checks.looks])
+        (reply, numbers[moments[0]], shown, token if demanded is None else max(numbers[demanded], 0), version, None)
+        for reply, _, shown, token, version, (moments, demanded, _) in checks.looks])
 
 
-def placed_row(row: Row, place: Optional[int], numbers: Optional[dict[Row, tuple[int, Optional[int]]]]) -> Row:
+def placed_row(row: Row, place: Optional[int], numbers: Optional[Numbers]) -> Row:
     """A plain write with its place in the feed, where there is one, or a content check with numbers for what is asked."""
     if numbers is None:
         return row
     if row[0] == "write":
         return (*row[:3], place, row[4], row[5], row[3], *row[7:])
-    snapshot, token = numbers[row[11]]
-    return (*row[:5], snapshot, row[6], row[7] if token is None else token, *row[8:11], None, *row[12:])
+    moments, demanded, _ = row[11]
+    return (*row[:5], numbers[moments[0]], row[6], row[7] if demanded is None else max(numbers[demanded], 0), *row[8:11], None, *row[12:])
 
 
 class _Names(Ids):
@@ -192,9 +241,10 @@ class Indexer:
         """By the places of plain writes and of plain content checks."""
         others, names, parts = checks.others, _Names(), list[list[Run]]()
         pairs, keys = dict.fromkeys(checks.pairs), dict[tuple[str, str, str], None]()
-        asked = dict.fromkeys(look[5] for look in checks.looks if look[5] is not None)
         revisions = {revision for look in checks.looks for revision in (look[1], look[3])}
         lows = [look[1] for look in checks.looks]
+        asked = moments_of(checks, contents) if self.has_groups else Moments([], 0, [], False)
+        numbers = dict(zip(asked.listed, range(len(asked.listed))))
         writes: list[int] = []
         plain: list[int] = []
         joins: list[int] = []
@@ -229,12 +279,11 @@ class Indexer:
                 pairs[goal[0], goal[2]] = None
                 lows.append(row[5])
                 revisions |= {row[5], row[7]}
-                if row[11] is not None:
-                    asked[row[11]] = None
                 if version is not None:
                     names.version(version)
                     saved[goal[0], goal[1], version] = at
-                    issued.append(Issued((goal[0], goal[1], version), goal, row[5], row[7], row[11], row[2]))
+                    looked = (numbers[row[11][0][0]], numbers.get(row[11][1])) if self.has_groups else None
+                    issued.append(Issued((goal[0], goal[1], version), goal, row[5], row[7], looked, row[2]))
             else:
                 parts.append(names.part())
                 odd.append(Odd(place, at, len(plain), len(issued), row))
@@ -245,10 +294,11 @@ class Indexer:
         rows = [row[2] for _, _, row in others if row[0] != NAMES]
         is_rising = None not in writes and all(before <= one for before, one in zip(writes, writes[1:]))
         is_once, touched = _touched(others) if self.has_groups else (False, {})
+        stood = [tuple(one) for one in stood_of(row for _, _, row in others if row[0] == "write" and not row[5])] if self.has_groups else []
         index = Index(checks.file, min([checks.first, *rows[:1]] if checks.size else rows[:1], default=0), checks.size + len(rows), checks.size,
                      len(others), list(pairs), list(keys),
                      min((low for low in lows if low is not None), default=None), [one for one in revisions if one not in (None, NEWEST)],
-                     list(asked), _named(checks, saved), issued, writes, is_rising, plain, joins, last, odd, is_once, touched)
+                     asked, _named(checks, saved), issued, writes, is_rising, plain, joins, last, odd, is_once, touched, marshal.dumps(stood))
         return Packed(index, marshal.dumps([*parts, names.part()]), marshal.dumps(tuple(checks)))
 
     def _plain_writes(self, checks: Checks) -> dict[int, bool]:
@@ -324,14 +374,30 @@ def _touched(others: list[Other]) -> tuple[bool, dict[Row, bool]]:
     return is_once, touched
 
 
+def stood_of(rows: Iterable[Row]) -> Iterator[Stood]:
+    """The tuples that changes touch, each once."""
+    found: dict[int, Stood] = {}
+    for row in rows:
+        for live, listed in ((False, row[11]), (True, row[10])):
+            for key in map(hash, map(tuple, listed)):
+                before = found.get(key)
+                if before is None:
+                    found[key] = Stood(key, live, live, row[2], False)
+                elif live and before.last and not before.is_again:
+                    found[key] = before._replace(line=row[2], is_again=True)
+                else:
+                    found[key] = before._replace(last=live)
+    return iter(found.values())
+
+
 class Kept:
     """A block as it is kept for the trace: rows in place of those that were taken by themselves, each with its place among the rows, and how
     many checks stand before it."""
 
-    def __init__(self, data: bytes, odd: list[int], rows: list[tuple[int, int, Row]], first: Optional[int],
-                 numbers: Optional[dict[Row, tuple[int, Optional[int]]]]):
-        self.checks, self.odd, self.kept, self.first, self.numbers = Checks(*marshal.loads(data)), set(odd), rows, first, numbers
-        self.others, self.checks = self.checks.others, numbered(self.checks, numbers)
+    def __init__(self, data: bytes, odd: list[int], rows: list[tuple[int, int, Row]], first: Optional[int], places: Optional[list[int]]):
+        checks, self.odd, self.kept, self.first = Checks(*marshal.loads(data)), set(odd), rows, first
+        self.numbers = numbers_of(checks, self.odd, places)
+        self.others, self.checks = checks.others, numbered(checks, self.numbers)
 
     def among(self, is_end: Callable[[int], bool], commit_of: Callable[[list[Row]], Row]) -> Iterator[tuple[int, Row]]:
         """The rows among the checks, each with the number of checks before it; plain writes as commits, which end at some revisions."""

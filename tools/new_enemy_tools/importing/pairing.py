@@ -34,24 +34,26 @@ class Pairing:
             step = step_in(line)
             if step is None:
                 yield number, line
-            elif step.kind == 0:
-                if step.found in self.asked or step.found in self.joining.waiting:
+                continue
+            kind, found, is_stream = step
+            if kind == 0:
+                if found in self.asked or found in self.joining.waiting:
                     # Several calls with one id are under way at once.
                     raise Otherwise
-                self.asked[step.found] = line, number, False
-            elif step.kind == 1 and not step.is_stream and step.found in self.asked:
-                self.told = step.found, line
-                yield number, b'{"asked":%s,"told":%s}' % (self.asked[step.found][0], line)
+                self.asked[found] = line, number, False
+            elif kind == 1 and not is_stream and found in self.asked:
+                self.told = found, line
+                yield number, b'{"asked":%s,"told":%s}' % (self.asked[found][0], line)
                 if self.told is not None:
                     # Nobody read it in full.
                     self.told = None
-                    del self.asked[step.found]
-                    self.joining.answer(step.found)
+                    del self.asked[found]
+                    self.joining.answer(found)
             else:
-                self._read_asked(step.found)
-                is_end = step.kind == 2 and step.found in self.joining.answered
+                self._read_asked(found)
+                is_end = kind == 2 and found in self.joining.answered
                 if is_end and any(match(line) for match in self.ends):
-                    self.joining.end(step.found)
+                    self.joining.end(found)
                     continue
                 yield number, line
                 if is_end:

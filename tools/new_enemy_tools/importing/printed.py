@@ -151,12 +151,9 @@ def plain_of(content: Any) -> Any:
     return made
 
 
-class Step(NamedTuple):
-    """What a line does to what waits: a request (0), a response (1), or the end of a call (2); its id, and whether more responses may come."""
-
-    kind: int
-    found: str
-    is_stream: bool
+# What a line does to what waits: a request (0), a response (1), or the end of a call (2); its id, and whether more responses may come. There
+# are millions of them.
+Step = tuple[int, str, bool]
 
 
 def is_stream(value: dict[str, Any]) -> bool:
@@ -179,7 +176,7 @@ def steps_of(value: Any) -> list[Step]:
         return []
     kind = 0 if REQUEST in value else 1 if RESPONSE in value else 2
     found = next((value[key] for key in REQUEST_ID if isinstance(value.get(key), str)), None)
-    return [] if found is None and kind < 2 else [Step(kind, found or "", kind == 1 and is_stream(value))]
+    return [] if found is None and kind < 2 else [(kind, found or "", kind == 1 and is_stream(value))]
 
 
 class Waiting(NamedTuple):

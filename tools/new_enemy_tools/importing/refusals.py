@@ -54,6 +54,10 @@ class Refusals:
         self.unseen: dict[str, tuple[str, int]] = {}
         # the pages of changes that were asked for
         self.pages: list[Page] = []
+        # by file and revision the first line of a watch stream that was asked for from there on; and revisions that streams came to without
+        # a change, each with its file and line
+        self.starts: dict[tuple[str, int], int] = {}
+        self.checkpoints: list[tuple[str, int, int]] = []
         # the stores that calls name, each with the first line that does
         self.stores: dict[str, tuple[str, int]] = {}
         self.doubts: list[tuple[str, Optional[str], str]] = []
@@ -82,6 +86,9 @@ class Refusals:
         self.updated += other.updated
         self.deleted += other.deleted
         self.pages += other.pages
+        self.checkpoints += other.checkpoints
+        for start, line in other.starts.items():
+            self.starts.setdefault(start, line)
         self.numbers.merge(other.numbers)
         for call, place in other.unseen.items():
             self.unseen.setdefault(call, place)

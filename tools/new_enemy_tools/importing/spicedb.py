@@ -1,6 +1,8 @@
 """SpiceDB: relationships as text, the JSON of the watch stream, and checks of a recorder's log."""
 import re
 from dataclasses import replace
+from itertools import chain, groupby
+from operator import itemgetter
 from typing import Any, Iterator, Optional
 
 from new_enemy_tools.importing import located, printed, shapes, visibility
@@ -26,6 +28,8 @@ RELATIONSHIP = re.compile(r"(?P<type>[a-z0-9_/]+):(?P<id>[A-Za-z0-9/_|\-=+]+)#(?
 READ = re.compile(RELATIONSHIP.pattern.replace("#(?P<relation>", " +(?P<relation>").replace("@(?P<user_type>", " +(?P<user_type>")
                   .replace("(?P<traits>", " *(?P<traits>"))
 WORD = rb"[a-z0-9_]"
+LATE_START = ("the watch stream begins behind all that the log has before it, by the `optionalStartCursor` of its request, and what was written "
+              "between is not there: give the whole stream, or a base state of where it begins")
 # By names and numbers.
 CONSISTENCY = ("fullyConsistent", "minimizeLatency", "atLeastAsFresh", "atExactSnapshot")
 OPERATIONS = {"OPERATION_CREATE": True, 1: True, "OPERATION_TOUCH": True, 2: True, "OPERATION_DELETE": False, 3: False}
@@ -147,6 +151,7 @@ class SpiceDbLog(Log):
         """Numbers for the snapshots of PostgreSQL; a log has either those or numbers."""
         self.refuse_unseen(lines)
         self._refuse_deleted(lines)
+        self._refuse_late_starts(lines)
         lines = self.with_calls(lines, _key_of_row)
         for key, path, line in self.refusals.updated:
             if key not in self.written:
@@ -166,6 +171,25 @@ class SpiceDbLog(Log):
                                  % (number.shown, snapshot.file, snapshot.line))
             return Lines()
         return self.with_calls(visibility.placed(list(lines), base, skew, self.refusals), _key_of_row)
+
+    def _refuse_late_starts(self, lines: Lines) -> None:
+        """A stream begins at the base state, or where the log has come to before its first line; else the log may lack changes between."""
+        starts = [(file, line, start, True) for (file, start), line in self.refusals.starts.items()]
+        if not starts:
+            return
+        seen = [(*one, False) for one in self.refusals.checkpoints]
+        seen += [(row.file, row.line, row.revision, False) for row in chain(lines.writes(), lines.calls()) if row.revision is not None]
+        most: dict[str, int] = {}
+        for file, _, revision, _ in seen:
+            most[file] = max(revision, most.get(file, revision))
+        base = [] if self.base_at is None or self.base_at.number is None else [self.base_at.number]
+        for file, listed in groupby(sorted(seen + starts), itemgetter(0)):
+            known = [*base, *(one for other, one in most.items() if other != file)]
+            for _, line, revision, is_start in listed:
+                if not is_start:
+                    known = [max([*known, revision])]
+                elif known and revision > max(known):
+                    self.refusals.refuse(file, line, LATE_START)
 
     def _refuse_deleted(self, lines: Lines) -> None:
         """A deletion is in the log by its change alone. Where the log has none at all, that was refused."""
@@ -242,6 +266,15 @@ class SpiceDbLog(Log):
         event.line = line
         if updates:
             yield event
+        elif revision.number is not None:
+            self.refusals.checkpoints.append((path, line, revision.number))
+
+    def refuse_partial(self, request: object, changes: object, stamp: Stamp, path: str, line: int) -> None:
+        super().refuse_partial(request, changes, stamp, path, line)
+        cursor = get(request, "optionalStartCursor")
+        start = None if cursor is None else revision_in(cursor, "`optionalStartCursor` of the request").number
+        if start is not None:
+            self.refusals.starts.setdefault((path, start), line)
 
     def calls(self, value: dict[str, Any], stamp: Stamp, path: str, line: int) -> Iterator[Event]:
         """The updates of a WriteRelationships, at the revision of its response."""

@@ -331,18 +331,20 @@ class Lines:
                     yield from (one[3:5] for one in row[10] + row[11] if one[5] is None)
             yield from users[given:]
 
-    def spans(self) -> Iterator[tuple[int, int]]:
-        """From where to where the checks looked, and what they demanded; of many together once."""
-        for found in self.stream():
-            rows: list[Union[Event, Row]] = [found]
-            if isinstance(found, Packed):
-                yield from zip(found.head.revisions, found.head.revisions)
-                rows = [odd.row for odd in found.head.odd]
-            for row in rows:
-                if isinstance(row, tuple) and row[0] in CHECKS:
-                    yield row[5] if row[9] is None else row[9], row[5]
+    def spans(self) -> Iterator[tuple[list[int], list[tuple[int, int]]]]:
+        """Where checks looked, and what they demanded, many at a time; and from where to where others looked."""
+        for batch in self.spool.batches():
+            found = found_in(batch)
+            points, wide = (found.head.revisions, list[tuple[int, int]]()) if isinstance(found, Packed) else ([], [])
+            for row in [odd.row for odd in found.head.odd] if isinstance(found, Packed) else found:
+                if row[0] in CHECKS:
+                    if row[9] in (None, row[5]):
+                        points.append(row[5])
+                    else:
+                        wide.append((row[9], row[5]))
                     if row[7] not in (None, NEWEST):
-                        yield row[7], row[7]
+                        points.append(row[7])
+            yield points, wide
 
     def _line(self, row: Row) -> Union[Event, Row]:
         return self.rules[row[1]] if row[0] == "rules" else line_of(row)

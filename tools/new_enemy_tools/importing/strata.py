@@ -133,12 +133,12 @@ def choose(names: list[Name], edges: Edges, refusals: Refusals) -> dict[Name, in
     return strata
 
 
-def takes_circles_away(names: list[Name], edges: Edges) -> bool:
-    """Whether a relation takes away what leads to relations that read one another in a circle."""
+def taking_circles_away(names: list[Name], edges: Edges) -> set[Name]:
+    """The relations that hang on one which takes away what leads to relations that read one another in a circle."""
     inside = {name: number for number, component in enumerate(components(names, edges)) for name in component}
     circles = {edge.reader for edge in edges.reasons if inside.get(edge.reader, -1) == inside.get(edge.read, -2)}
     leading = edges.readers(circles)
-    return any(edge.strict and edge.read in leading for edge in edges.reasons)
+    return edges.readers({edge.reader for edge in edges.reasons if edge.strict and edge.read in leading})
 
 
 def open_circles(names: list[Name], edges: Edges) -> list[tuple[Edge, str]]:

@@ -165,9 +165,8 @@ class Taken:
 
     def _take_issued(self, block: Packed, start: int, end: int) -> None:
         for version, goal, snapshot, token, asked, line in block.head.issued[start:end]:
-            if asked is not None and block.numbers is not None:
-                snapshot, demanded = block.numbers[asked]
-                token = token if demanded is None else demanded
+            if asked is not None and block.places is not None:
+                snapshot, token = block.places[asked[0]], token if asked[1] is None else max(block.places[asked[1]], 0)
             self.issued[version] = ((tuple(goal), True, snapshot, None, token), block.head.file, line)
 
     def _keep(self, row: tuple[Any, ...]) -> None:

@@ -14,6 +14,7 @@ from new_enemy_tools.ids import Ids
 from new_enemy_tools.importing import going_on
 from new_enemy_tools.importing.between import Spans
 from new_enemy_tools.importing.core import Core, GoesOn
+from new_enemy_tools.importing.doubts import Doubts
 from new_enemy_tools.importing.going_on import Left, Named, numbered
 from new_enemy_tools.importing.located import Block
 from new_enemy_tools.importing.neutral import Events
@@ -115,9 +116,14 @@ class Stream(Core):
         lines.facts.is_chained = True
         for piece in Events(chunk.file, self.refusals).pieces(Block(chunk.first, chunk.data), self.refusals):
             lines.add_piece(piece)
-        # To look for circles takes a look at all usersets that are stored, and would be done for each few lines.
-        self.refusals.denies_circles = False
         return lines
+
+    def _spread(self, doubts: Doubts) -> None:
+        """To go from all tuples to what hangs on circles would take long for each few lines. So each check goes by itself, on from what it asks,
+        up to as many usersets as `Circles` says, where its relation may hang on a circle at all."""
+        doubts.spread(self._stored(), False)
+        if self.refusals.denies_circles and doubts.take_circling():
+            doubts.circles = self._circles()
 
     def _refuse(self) -> None:
         if self.refusals.refused:
