@@ -144,10 +144,10 @@ class OpenFga:
     def decided(self, user, relation, thing):
         allowed = self.holds(self.states[-1], user, relation, thing)
         name = thing.split(":")[1]
-        if name.startswith("fixed") and self.faults.strikes():
+        if name.startswith("fixed") and self.faults.strikes("wrong"):
             self.faults.told("wrong", [user, relation, thing])
             return not allowed
-        if name.startswith("early") and self.faults.strikes():
+        if name.startswith("early") and self.faults.strikes("stale"):
             stale = self.holds(self.before_last_change(thing), user, relation, thing)
             if stale != allowed:
                 self.faults.told("stale", [user, relation, thing])
