@@ -21,6 +21,8 @@ from tests.openfga_service import Service
 from tests.stand_in import Faults, jitter, serve
 
 STORE = "01HVMMBCMGZNT3SED4Z17ECXCA"
+# A store that was made later: all that is asked of it is allowed.
+OTHER = "01HVMMBCMGZNT3SED4Z17ECXCB"
 PATH = re.compile(r"/stores/([^/?]+)/([a-z-]+)")
 
 
@@ -39,6 +41,8 @@ class OpenFga:
         found = PATH.match(path)
         if path.split("?")[0] == "/stores":
             handler.answer({"stores": [{"id": STORE, "name": "shop"}], "continuation_token": ""})
+        elif found and (found[1], found[2]) == (OTHER, "check"):
+            handler.answer({"allowed": True, "resolution": ""})
         elif not found or found[1] != STORE:
             handler.answer({"code": "store_id_not_found", "message": "no such store"}, 404)
         else:

@@ -15,7 +15,7 @@ from new_enemy_tools.recording.bearing import Bearing
 from new_enemy_tools.recording.core import FULL, Core, Now
 from new_enemy_tools.recording.log_files import LogFiles
 from new_enemy_tools.recording.messages import Beat, Ended, Started
-from new_enemy_tools.recording.openfga import OTHER_STORE, Base, Changes, OpenFga
+from new_enemy_tools.recording.openfga import NOT_NAMED, OTHER_STORE, Base, Changes, OpenFga
 from new_enemy_tools.recording.overlap import Change, Overlap
 from new_enemy_tools.recording.overlap import Known as Shown
 from new_enemy_tools.recording.places import Places, Row, Window, by_turns
@@ -340,16 +340,20 @@ class Writes(Case):
         self.assertLess(max(map(len, self.lost())), 250)
 
     def test_a_store_that_is_made_again(self):
-        """Where nobody said which store is recorded, checks of another are lost, and counted; where somebody did, they are no loss."""
-        for store, lost in (None, {OTHER_STORE: 2}), (STORE, {}):
+        """Checks of another store than the one that is recorded are lost, unless somebody said that they are no loss; they are counted and told
+        all the same. So the log of a client that moves to another store is not as one of a client that asks no more."""
+        for store, ignores, lost in (None, False, {OTHER_STORE: 2}), (STORE, False, {NOT_NAMED: 2}), (STORE, True, {}):
             self.setUp()
-            self.service = OpenFga(store, 0, 30 * SECOND)
+            self.service = OpenFga(store, 0, 30 * SECOND, 0, False, ignores)
             self.core.service = self.service
             self.at(1, Base(STORE, None, Stored(), [], "end", *RULES, 0, 1))
-            for _ in range(2):
-                self.check(5, 6, path="/stores/T/check")
+            self.core.told.clear()
+            for path in "/stores/T/check", "/stores/%s/x/stores/T/check" % STORE:
+                self.check(5, 6, path=path)
             self.read(7, 8)
-            self.assertEqual((self.lost(), self.core.held), (lost, {}))
+            self.assertEqual((self.lost(), self.core.held, self.core.elsewhere), (lost, {}, 2))
+            self.core.end(Now(9, 9))
+            self.assertEqual(self.core.told, ["checks of other stores, which are not recorded: 2"])
 
     def test_models_that_come_one_behind_the_other_between_two_readings(self):
         """A check may have looked by one that no reading showed; one that began behind the last is by that."""

@@ -124,6 +124,8 @@ class Core:
         # how many decisions stand in the log, and how many were lost, by cause
         self.recorded = 0
         self.lost: Counter[str] = Counter()
+        # how many calls were of other stores than the one that is recorded
+        self.elsewhere = 0
         self.ticks = 0
         self.left: Optional[Left] = None
         self.place = Place(None, 0, None)
@@ -321,6 +323,8 @@ class Core:
     def end(self, now: Now) -> None:
         """Nothing more comes: what waits is lost."""
         self.now = now
+        if self.elsewhere:
+            self.say("checks of other stores, which are not recorded: %d" % self.elsewhere)
         self.sequencer.ready = []
         self._lose_open(self.held, "the recorder ended before the changes that these needed")
 

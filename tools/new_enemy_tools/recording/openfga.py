@@ -54,6 +54,7 @@ UNSHOWN = "a write was answered that the changes did not show within %g seconds"
 UNORDERED = "changes that came at once, in an order that is not known"
 CONSISTENT = "a check with an unknown consistency"
 OTHER_STORE = "a check of another store; the one that is recorded was the only one when the recorder began"
+NOT_NAMED = "a check of another store than --store names (see --ignore-other-stores)"
 Rules = tuple[Optional[ServiceRules], Refusals]
 Key = tuple[Relationship, bool]
 
@@ -140,11 +141,11 @@ class OpenFga:
     """`stale`, `hold` and `horizon` in nanoseconds: how long it may answer from its cache, how long a check waits, and how late the
     changes are shown at least, which is learnt where a write proves that it is more."""
 
-    def __init__(self, store: Optional[str], stale: int, hold: int, horizon: int = 0, tells: bool = False):
-        """`tells` says whether the log has from when to when each change may have come, for checks that do not pass here."""
+    def __init__(self, store: Optional[str], stale: int, hold: int, horizon: int = 0, tells: bool = False, ignores: bool = False):
+        """`tells` says whether the log has from when to when each change may have come, for checks that do not pass here; `ignores` whether
+        checks of other stores are no loss, since somebody said so."""
         self.store, self.stale, self.hold, self.horizon, self.tells = store, stale, hold, horizon, tells
-        # whether somebody said which store is recorded, so that checks of others are no loss
-        self.is_named = bool(store)
+        self.ignores, self.other_store = ignores, NOT_NAMED if store else OTHER_STORE
         # until when all changes are in the log, as it was told last
         self.told = 0
         self.takes, self.bearing = Takes(), Bearing()
@@ -487,8 +488,10 @@ class OpenFga:
             self.open.pop(message.number, None)
             return
         request = self._request(message)
-        if request is None and not self.is_named:
-            raise Bad(OTHER_STORE)
+        if request is None:
+            core.elsewhere += 1
+            if not self.ignores:
+                raise Bad(self.other_store)
         answers = [] if request is None else list(answers_of(request, response_of(message), UNHEARD))
         if not answers:
             core.forget(message.number)
@@ -508,7 +511,8 @@ class OpenFga:
         if message.encoding == GRPC:
             request = request_of(message)
             return request if self.store in (None, get(request, "store_id")) else None
-        if self.store is not None and "/stores/%s/" % self.store not in message.path:
+        found = PATH.search(message.path)
+        if found is None or found[1] != self.store:
             return None
         request = request_of(message)
         refuse_unknown(message.path, request)
