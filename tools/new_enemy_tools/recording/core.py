@@ -21,8 +21,8 @@ FOREVER = 1 << 63
 TOGETHER = 10 ** 9
 # So many causes are told apart, and so much of one is told: what stands in some comes from a client.
 CAUSES, LONGEST = 1000, 200
-# So many bytes of lines may wait for the changes.
-ROOM = 64 << 20
+# So many bytes of lines, and so many decisions that have no line yet, may wait for the changes.
+ROOM, WAITING = 64 << 20, 200_000
 FULL = "too many decisions wait for the changes"
 # What a gap calls the requests of a call.
 KINDS = {"check": "checks", "batch": "batches of checks", "list": "lists", "stream": "lists"}

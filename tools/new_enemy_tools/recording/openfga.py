@@ -21,7 +21,7 @@ from new_enemy_tools.importing.service import Answer, ServiceRules
 from new_enemy_tools.importing.times import nanoseconds
 from new_enemy_tools.recording.bearing import Bearing
 from new_enemy_tools.recording.bodies import UNHEARD, request_of, response_of
-from new_enemy_tools.recording.core import FULL, Asked, Begun, Core
+from new_enemy_tools.recording.core import FULL, WAITING, Asked, Begun, Core
 from new_enemy_tools.recording.grpc_calls import GRPC
 from new_enemy_tools.recording.lines import ODD, Came, line, time_text, unmapped_line, write_line
 from new_enemy_tools.recording.log_files import Left, Place
@@ -37,8 +37,6 @@ PATH = re.compile(r"/stores/([^/]+)/(check|batch-check|list-objects|streamed-lis
 CALLS = {"check": "check", "batch-check": "batch", "list-objects": "list", "list-users": "list", "streamed-list-objects": "stream",
          "write": "write"}
 REQUESTS = {call: "".join(word.title() for word in call.split("-")) + "Request" for call in CALLS}
-# So many decisions may wait for the changes.
-WAITING = 200_000
 # Of so many changes the times are remembered.
 TIMES = 100_000
 # Of so many changes it is remembered where each tuple's stand, for writes whose answers come later.
@@ -502,17 +500,14 @@ class OpenFga:
         self.weight += len(answers)
         if self.weight > WAITING:
             raise Bad(FULL)
-        # Of what waits the bodies are not needed any more.
-        kept = message._replace(request=None, response=None)
-        self.waits.append(Waiting(kept, answers, since, newest, token, get(request, "authorization_model_id") or None))
+        self.waits.append(Waiting(message.without_bodies(), answers, since, newest, token, get(request, "authorization_model_id") or None))
 
     def _request(self, message: Ended) -> Any:
         """What a call asks of the store that is recorded, None where it is of another; over gRPC the request names it."""
         if message.encoding == GRPC:
             request = request_of(message)
             return request if self.store in (None, get(request, "store_id")) else None
-        found = PATH.search(message.path)
-        if found is None or found[1] != self.store:
+        if message.path.split("/")[-3:-1] != ["stores", self.store]:
             return None
         request = request_of(message)
         refuse_unknown(message.path, request)
