@@ -335,6 +335,22 @@ class Files(Case):
         self.assertEqual([head_of(path) for path in paths], [(number, None if number == 1 else ends[number - 2].found)
                                                             for number in range(1, len(paths) + 1)])
 
+    def test_which_store_a_log_is_of(self):
+        """By its first lines, or by the first line of a later file; those of logs of before do not say it."""
+        log, _ = self.log()
+        log.add(line("feed", store="S") + line("rules", namespaces=[]) + line("write", revision=0, base=True) + line("place", rules_sha256="r"))
+        for _ in range(3):
+            os.close(log._lock)
+            log, left = self.log()
+            self.assertEqual(left.place.store, "S")
+            log.add(write_line(1, [], []))
+        self.assertEqual(len(self.paths()), 4)
+        log.close()
+        log.place = Place(None, 1, "r")
+        log.add(write_line(2, [], []))
+        os.close(log._lock)
+        self.assertIsNone(self.log()[1].place.store)
+
     def test_what_a_killed_recorder_left_is_closed(self):
         log, _ = self.log()
         self.begin(log)

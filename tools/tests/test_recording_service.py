@@ -174,6 +174,18 @@ class Stores(OpenFga):
         self.assertEqual((status, self.of_kind("gap"), self.said_of_audit[-1]), (0, [], "verdict clean"), said)
         self.assertNotIn("lost", report)
 
+    def test_a_folder_that_has_the_log_of_another_store(self):
+        """Nothing is recorded, and what passes is counted, however little the changes of the two stores differ."""
+        self.start_service(MODEL)
+        self.end(self.start_recorder("--store", STORE))
+        recorder = self.start_recorder("--store", OTHER, is_ready=False)
+        self.wait_for(lambda: "the log is of the store %s, and %s is to be recorded" % (STORE, OTHER) in self.get("said"), lambda: self.get("said"))
+        client = Client(self.port)
+        self.assertEqual(client.ask("/stores/%s/check" % OTHER, {"tuple_key": key("user:a", "viewer", "document:1")})[0], 200)
+        client.close()
+        self.end(recorder)
+        self.assertEqual([(row["reason"], row.get("lost")) for row in self.of_kind("gap")], [("the recorder did not run", 1)])
+
     def test_what_does_not_go_together(self):
         run = self.run_process("record", "--openfga", "http://127.0.0.1:1", "--listen", "127.0.0.1:1", "--out", "log", "--ignore-other-stores")
         self.assertEqual(run.returncode, 3)

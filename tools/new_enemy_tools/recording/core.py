@@ -349,8 +349,8 @@ def _moved(place: Place, commit: Commit) -> Place:
     """Where the changes are behind a commit."""
     rules = commit.rules or place.rules
     if commit.cursor is not None:
-        return Place(commit.cursor, commit.revision, rules, commit.behind, commit.apart)
-    return Place(place.cursor, commit.revision, rules, place.behind + (0 if commit.rules else commit.changes), place.apart)
+        return Place(commit.cursor, commit.revision, rules, commit.behind, commit.apart, place.store)
+    return Place(place.cursor, commit.revision, rules, place.behind + (0 if commit.rules else commit.changes), place.apart, place.store)
 
 
 def _reason(fault: Exception) -> str:

@@ -215,7 +215,7 @@ class OpenFga:
         self.began, self.first = base.began, base.received
         core.sequencer.reached = revision
         behind = left.writes + left.place.behind + len(base.changes) if left else 0
-        place = Place(base.cursor, revision, rules.hash, behind, left.place.apart if left else ())
+        place = Place(base.cursor, revision, rules.hash, behind, left.place.apart if left else (), base.store)
         is_empty = not base.stored.count and not base.changes
         core.begin_log(Begun(lines if left else self._base_lines(rules.data, base.stored), is_empty, place))
 
