@@ -2,9 +2,9 @@
 
 Of the share of checks that ask of a document called `fixed`, which no later write touches, the reply is a wrong one; of those that
 ask of a document called `early`, the state before its last change is looked at, whatever the request demands. A check of the document
-`held` has no answer; a line on standard output says that it came. A list for the user `broken` breaks off behind its first object.
-The feed never shows a change of the document `hidden`, and a change of the document `slow`, with all behind it, half a second late. It can't
-be read between `control-pause` and `control-go-on`.
+`held` has no answer; a line on standard output says that it came. One of the document `waits` has its answer when `control-answer` was
+asked. A list for the user `broken` breaks off behind its first object. The feed never shows a change of the document `hidden`, and a change
+of the document `slow`, with all behind it, half a second late. It can't be read between `control-pause` and `control-go-on`.
 """
 import json
 import re
@@ -35,7 +35,7 @@ class OpenFga:
         self.states = [frozenset()]
         self.lock = threading.Lock()
         self.random = Random(11)
-        self.is_paused = False
+        self.is_paused, self.is_answering = False, threading.Event()
 
     def call(self, handler, method, path, body):
         found = PATH.match(path)
@@ -85,6 +85,10 @@ class OpenFga:
         self.is_paused = True
         handler.answer({})
 
+    def control_answer(self, handler, method, body, query):
+        self.is_answering.set()
+        handler.answer({})
+
     def control_go_on(self, handler, method, body, query):
         self.is_paused = False
         handler.answer({})
@@ -112,6 +116,8 @@ class OpenFga:
             sys.stdout.write("held\n")
             sys.stdout.flush()
             threading.Event().wait()
+        if key["object"] == "document:waits":
+            self.is_answering.wait()
         jitter(self.random)
         allowed = self.decided(key["user"], key["relation"], key["object"])
         jitter(self.random)
