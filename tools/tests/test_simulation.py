@@ -20,7 +20,7 @@ from tests.simulated_spicedb import run_either
 from tests.simulation import STEP, TUPLES, Shape, run
 from tests.support import TOOLS, Case
 
-SEEDS = 1000
+SEEDS, WIRED = 1000, 300
 
 
 def shape_of(seed, **values):
@@ -152,15 +152,15 @@ class Finds(Case):
 class OverHttp(Case):
     """The same where checks are bytes of HTTP, in pieces and one behind the other; and what a recorder that reads them wrongly does is found."""
 
-    def assert_found(self, wanted, seeds=300):
-        for seed in range(seeds):
+    def assert_found(self, wanted):
+        for seed in range(WIRED):
             if any(wanted in fault for fault in run_wired(seed)[1].faults()):
                 return
         self.fail(wanted)
 
     def test_no_right_reply_is_accused_and_no_wrong_one_passes(self):
         recorded = lost = 0
-        for seed in range(300):
+        for seed in range(WIRED):
             _, verdict = run_wired(seed)
             self.assertEqual(verdict.faults(), [], "seed %d" % seed)
             recorded, lost = recorded + len(verdict.entries), lost + verdict.lost
