@@ -11,16 +11,20 @@ from random import Random
 
 
 class Faults:
-    """Which checks are answered wrongly; each is told on a line of a file."""
+    """Which checks are answered wrongly: a share of those that can be, and of each kind the first, so that none is left out by chance. Each is
+    told on a line of a file."""
 
     def __init__(self, share, path):
         self.random, self.share = Random(7), share
+        self.struck = set()
         self.file = open(path, "a", buffering=1, encoding="utf-8") if path else None
         self.lock = threading.Lock()
 
-    def strikes(self):
+    def strikes(self, kind):
         with self.lock:
-            return self.random.random() < self.share
+            is_first = kind not in self.struck and self.share > 0
+            self.struck.add(kind)
+            return self.random.random() < self.share or is_first
 
     def told(self, kind, goal):
         with self.lock:

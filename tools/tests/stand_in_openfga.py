@@ -2,9 +2,9 @@
 
 Of the share of checks that ask of a document called `fixed`, which no later write touches, the reply is a wrong one; of those that
 ask of a document called `early`, the state before its last change is looked at, whatever the request demands. A check of the document
-`held` has no answer; a line on standard output says that it came. A list for the user `broken` breaks off behind its first object.
-The feed never shows a change of the document `hidden`, and a change of the document `slow`, with all behind it, half a second late. It can't
-be read between `control-pause` and `control-go-on`.
+`held` has no answer; a line on standard output says that it came. One of the document `waits` has its answer when `control-answer` was
+asked. A list for the user `broken` breaks off behind its first object. The feed never shows a change of the document `hidden`, and a change
+of the document `slow`, with all behind it, half a second late. It can't be read between `control-pause` and `control-go-on`.
 """
 import json
 import re
@@ -21,6 +21,8 @@ from tests.openfga_service import Service
 from tests.stand_in import Faults, jitter, serve
 
 STORE = "01HVMMBCMGZNT3SED4Z17ECXCA"
+# A store that was made later: all that is asked of it is allowed.
+OTHER = "01HVMMBCMGZNT3SED4Z17ECXCB"
 PATH = re.compile(r"/stores/([^/?]+)/([a-z-]+)")
 
 
@@ -33,12 +35,14 @@ class OpenFga:
         self.states = [frozenset()]
         self.lock = threading.Lock()
         self.random = Random(11)
-        self.is_paused = False
+        self.is_paused, self.is_answering = False, threading.Event()
 
     def call(self, handler, method, path, body):
         found = PATH.match(path)
         if path.split("?")[0] == "/stores":
             handler.answer({"stores": [{"id": STORE, "name": "shop"}], "continuation_token": ""})
+        elif found and (found[1], found[2]) == (OTHER, "check"):
+            handler.answer({"allowed": True, "resolution": ""})
         elif not found or found[1] != STORE:
             handler.answer({"code": "store_id_not_found", "message": "no such store"}, 404)
         else:
@@ -81,6 +85,10 @@ class OpenFga:
         self.is_paused = True
         handler.answer({})
 
+    def control_answer(self, handler, method, body, query):
+        self.is_answering.set()
+        handler.answer({})
+
     def control_go_on(self, handler, method, body, query):
         self.is_paused = False
         handler.answer({})
@@ -108,6 +116,8 @@ class OpenFga:
             sys.stdout.write("held\n")
             sys.stdout.flush()
             threading.Event().wait()
+        if key["object"] == "document:waits":
+            self.is_answering.wait()
         jitter(self.random)
         allowed = self.decided(key["user"], key["relation"], key["object"])
         jitter(self.random)
@@ -144,10 +154,10 @@ class OpenFga:
     def decided(self, user, relation, thing):
         allowed = self.holds(self.states[-1], user, relation, thing)
         name = thing.split(":")[1]
-        if name.startswith("fixed") and self.faults.strikes():
+        if name.startswith("fixed") and self.faults.strikes("wrong"):
             self.faults.told("wrong", [user, relation, thing])
             return not allowed
-        if name.startswith("early") and self.faults.strikes():
+        if name.startswith("early") and self.faults.strikes("stale"):
             stale = self.holds(self.before_last_change(thing), user, relation, thing)
             if stale != allowed:
                 self.faults.told("stale", [user, relation, thing])

@@ -182,8 +182,9 @@ class SpiceDb:
         demanded = seen if is_full else consistency.get("atLeastAsFresh")
         least = self.tokens.revision_of(demanded) if demanded else commits[-1][0] - 3 * STEP
         before = [one for one in commits[DOZEN:] if one[0] < least]
-        if demanded and before and self.faults.strikes():
-            self.faults.told("old" if is_full else "stale", goal)
+        kind = "old" if is_full else "stale"
+        if demanded and before and self.faults.strikes((kind, goal[1])):
+            self.faults.told(kind, goal)
             return before[-1]
         return commits[-1] if is_full else self.random.choice([one for one in commits[-4:] if one[0] >= least] or commits[-1:])
 
@@ -203,7 +204,7 @@ class SpiceDb:
         seen = handler.headers.get("x-seen")
         revision, state, _ = self.looked_at(body.get("consistency", {}), goal, seen and {"token": seen})
         allowed = self.decided(state, body["resource"], body["permission"], body["subject"])
-        if told and revision == self.commits[-1][0] and self.faults.strikes():
+        if told and revision == self.commits[-1][0] and self.faults.strikes("wrong"):
             self.faults.told("wrong", goal)
             allowed = not allowed
         jitter(self.random)

@@ -378,7 +378,7 @@ class Told(CoreCase):
         run = self.run_process("import", "events", "--from-empty", "log")
         ended = os.times()
         self.assertEqual((run.returncode, run.stdout), (0, ""), run.stderr)
-        self.assertLess(ended.children_user + ended.children_system - began.children_user - began.children_system, 20)
+        self.assertLess(ended.children_user + ended.children_system - began.children_user - began.children_system, 40)
         self.assertIn("commits 50000, checks 50000", run.stderr)
         self.assertEqual(self.get("trace.jsonl").count("\n"), 100_001)
 

@@ -9,10 +9,11 @@ from new_enemy_tools.recording.log_files import LogFiles, Place
 from new_enemy_tools.recording.sketches import Given, JoinFault, Row
 from tests.simulation import run_days
 from tests import test_joining
+from tests.recorded import Client
 from tests.support import Case
 from tests.test_day import WORDS, DayCase
 from tests.test_joining import change, check, events, lines
-from tests.test_recording_openfga import OpenFga
+from tests.test_recording_openfga import FIXED, USERS, OpenFga
 
 SEEDS = 300
 SPANS = DayJoin._spans
@@ -260,8 +261,14 @@ class Processes(OpenFga):
     def test_days_find_what_one_recorder_in_front_of_all_shows(self):
         self.start_two("0.3", "--file-bytes", "2500")
         self.run_clients(4, 40, self.work)
-        # Each has checks in closed files, and goes on.
-        self.wait_for(lambda: all('"event":"check"' in "".join(map(self.get, self.files(name)[:-1])) for name in ("left", "right")))
+        def are_closed():
+            """Whether each has checks in closed files. How much is written at once, and so to one file, is up to the machine."""
+            for _, port in self.two:
+                client = Client(port)
+                self.check(client, USERS[0], "viewer", FIXED[0])
+                client.close()
+            return all('"event":"check"' in "".join(map(self.get, self.files(name)[:-1])) for name in ("left", "right"))
+        self.wait_for(are_closed)
         first = self.run_process("day", *WORDS, "--at-least", "0", "days", "events", "left", "right")
         self.assertIn(first.returncode, (0, 1, 6), first)
         self.run_clients(4, 40, self.work)

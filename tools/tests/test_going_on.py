@@ -127,6 +127,30 @@ class GoingOn(CoreCase):
         status, said = self.run_import("events", "log", "--go-on", "left", "--trace", "two", "--ids", "ids")
         self.assertEqual((status, said.splitlines()), (2, ["log:1: " + NEWLY_READ, "refused 1"]))
 
+    def test_rules_of_a_later_day_in_whatever_order_its_files_are_read(self):
+        """The last of them is that of the latest revision: who is banned reads by those between alone."""
+        doc, reads = rel("1", "viewer", "anne"), rel("1", "reader", "anne")
+        first = [RULES, write(0, base=True), write(1, doc, rel("1", "banned", "anne")), check(1, False, reads)]
+        second = [{**OTHER, "revision": 5}, check(5, True, reads)], [{**RULES, "revision": 8}, check(8, False, reads), write(9)]
+        third = [check(9, False, reads)]
+        lines = [{**event, "sequence": number} for number, event in enumerate([*first, *second[0], *second[1], *third])]
+        for names in ("early", "late"), ("late", "early"):
+            for name in "left", "ids", "state":
+                if os.path.exists(self.path(name)):
+                    os.remove(self.path(name))
+            self.put("first", lines[:4])
+            self.put("early", lines[4:6])
+            self.put("late", lines[6:9])
+            self.put("third", lines[9:])
+            told = []
+            for files in ("first",), names, ("third",):
+                self.imported("events", *files, "--go-on", "left", "--trace", "day", "--ids", "ids")
+                state = ["--state", "state"] if told else []
+                run = self.run_tool("window", "audit", "day", *state, "--out", "state", "--oldest-snapshot", "0", "--jobs", "1",
+                                    "--program", os.path.abspath(os.environ["NEW_ENEMY"]))
+                told.append((run.returncode, run.stderr))
+            self.assertEqual(told, [(0, "")] * 3, names)
+
     def test_checks_between_two_states(self):
         """What was stored on the days before is known from the state."""
         found = ""

@@ -245,6 +245,9 @@ class Full(Failing):
 
 
 class Behind(SpiceDb):
+    def lost(self):
+        return sum(row["lost"] for row in self.of_kind("gap"))
+
     def test_a_watch_that_stands_still(self):
         """Checks that wait longer than they may are lost, and the log says so; the check of a version that was lost is no finding."""
         self.start_service()
@@ -257,11 +260,17 @@ class Behind(SpiceDb):
         self.wait_for(lambda: self.of_kind("gap"))
         client.ask("/v1/control/go_on", {})
         self.wait_for(lambda: len(self.of_kind("write")) == 3)
-        self.check(client, "u1", "view", "d0", {"atLeastAsFresh": answer["checkedAt"]}, X_Content_Version="first")
+        asked = []
+
+        def is_recorded():
+            """A recorder that gets no time for so long loses one that it could have."""
+            if self.lost() == 1 + len(asked):
+                asked.append(self.check(client, "u1", "view", "d0", {"atLeastAsFresh": answer["checkedAt"]}, X_Content_Version="first"))
+            return self.of_kind("check")
+        self.wait_for(is_recorded)
         client.close()
-        self.wait_for(lambda: self.of_kind("check"))
         self.end(recorder)
-        self.assertEqual([(row["reason"], row["lost"]) for row in self.of_kind("gap")], [("the changes were more than 5 seconds behind", 1)])
+        self.assertEqual((self.lost(), {row["reason"] for row in self.of_kind("gap")}), (len(asked), {"the changes were more than 5 seconds behind"}))
         self.assertIn("audited in part 1: %s; not looked for: F2, F6" % causes.VERSION_UNKNOWN, self.import_log())
         self.assertEqual(self.found(), {})
 

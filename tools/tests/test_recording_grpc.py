@@ -15,12 +15,13 @@ from unittest import mock
 
 from new_enemy_tools.recording.grpc_calls import CALLS, answered, asked, joined
 from new_enemy_tools.recording.messages import Ended
+from new_enemy_tools.recording.openfga import NOT_NAMED
 from new_enemy_tools.recording import openfga_messages, spicedb_messages
 from new_enemy_tools.recording.protobuf import Malformed
 from tests import test_recording_openfga as over_http
 from tests.recorded import Recorded, counted
 from tests.support import TOOLS, Case
-from tests.stand_in_openfga import STORE
+from tests.stand_in_openfga import OTHER, STORE
 from tests.test_recording_spicedb import CLIENTS, FINDINGS, REQUESTS
 
 OPENFGA, SPICEDB = openfga_messages.MESSAGES, spicedb_messages.MESSAGES
@@ -251,23 +252,23 @@ class OpenFgaOverGrpc(over_http.Load):
         return super().start_recorder("--grpc", *words, **more)
 
     def test_calls_that_are_not_taken(self):
-        """Of other stores nothing is recorded; contextual tuples and a consistency that is not known are told, and a list is its checks."""
+        """Checks of other stores, contextual tuples and a consistency that is not known are told, and a list is its checks."""
         self.start_service(over_http.MODEL)
         recorder = self.start_recorder("--store", STORE)
         client = OpenFgaClient(self.port)
         self.write(client, over_http.key("user:u1", "viewer", "document:d1"), over_http.key("user:u1", "viewer", "document:d2"))
         goal = over_http.key("user:u1", "viewer", "document:d1")
-        client.ask("/stores/other/check", {"tuple_key": goal})
+        self.assertEqual(client.ask("/stores/%s/check" % OTHER, {"tuple_key": goal})[0], 200)
         self.call(client, "check", {"tuple_key": goal, "contextual_tuples": {"tuple_keys": [goal]}})
         self.call(client, "check", {"tuple_key": goal, "consistency": 150})
         self.assertEqual(self.call(client, "streamed-list-objects", {"type": "document", "relation": "viewer", "user": "user:u1",
                                                                     "consistency": 200})[1], ["document:d1", "document:d2"])
-        self.wait_for(lambda: len(self.of_kind("check")) == 2 and self.lost() == 1)
+        self.wait_for(lambda: len(self.of_kind("check")) == 2 and self.lost() == 2)
         client.close()
         self.end(recorder)
         self.assertEqual([row["goal"][1] for row in self.of_kind("check")], ["d1", "d2"])
         self.assertEqual([row["reason"] for row in self.of_kind("unmapped")], ["contextual tuples"])
-        self.assertEqual([row["reason"] for row in self.of_kind("gap") if row.get("lost")], ["a check with an unknown consistency"])
+        self.assertEqual({row["reason"] for row in self.of_kind("gap") if row.get("lost")}, {NOT_NAMED, "a check with an unknown consistency"})
 
     def test_a_model_that_changes(self):
         """By its id; the tuples that a new one takes are recorded."""

@@ -1,7 +1,9 @@
 """The parts of tools/record alone: what reads along with HTTP, the order of a log, its files, and what goes to the keeper."""
 import asyncio
 import errno
+import http.client
 import importlib.util
+import io
 import json
 import os
 import socket
@@ -17,7 +19,7 @@ from new_enemy_tools.importing.chained import end_of, head_of
 from new_enemy_tools.importing.reading import Bad
 from new_enemy_tools.importing.times import nanoseconds
 from new_enemy_tools.recording.asking import FeedFault
-from new_enemy_tools.recording.core import FULL, Core
+from new_enemy_tools.recording.core import FULL, Core, Now
 from new_enemy_tools.recording.http_reading import BODY, Head, Messages, Strange, path_of
 from new_enemy_tools.recording.keeper import Settings
 from new_enemy_tools.recording.log_files import LATER, InUse, LogFault, LogFiles, Place
@@ -137,11 +139,33 @@ class Reading(Case):
                          ["check", "stream", None])
 
 
+class Still(io.RawIOBase):
+    """What comes of a service that gives an answer and then stands still, for longer than it is waited for."""
+
+    def __init__(self, answer):
+        self.answer = answer
+
+    def readable(self):
+        return True
+
+    def readinto(self, room):
+        if not self.answer:
+            raise socket.timeout("timed out")
+        count = min(len(room), len(self.answer))
+        room[:count], self.answer = self.answer[:count], self.answer[count:]
+        return count
+
+
 class Asking(Case):
     """The recorder's own requests."""
 
     def source(self, answer, stays=False):
         """Of SpiceDB, from a service that gives an answer and then stands still, or closes the connection."""
+        if stays:
+            source, connection = HttpSource("http://x", None), http.client.HTTPConnection("x")
+            connection.sock = mock.Mock(makefile=lambda *_: io.BufferedReader(Still(b"HTTP/1.1 200 OK\r\n" + answer)))
+            source.asker._connected = lambda timeout: connection
+            return source
         server = socket.create_server(("127.0.0.1", 0))
         self.addCleanup(server.close)
 
@@ -153,17 +177,15 @@ class Asking(Case):
             while not asked.endswith(b"}"):
                 asked += one.recv(1 << 16)
             one.sendall(b"HTTP/1.1 200 OK\r\n" + answer)
-            if not stays:
-                one.close()
+            one.close()
         threading.Thread(target=serve, daemon=True).start()
         return HttpSource("http://127.0.0.1:%d" % server.getsockname()[1], None)
 
     def test_a_service_that_stands_still(self):
         """Where changes are waited for that is no fault; a base state without its end is none."""
-        with mock.patch("new_enemy_tools.recording.spicedb_http.QUIET", 0.2):
-            for stays in True, False:
-                self.assertEqual(list(self.source(self.CHUNKED, stays).watch("t")), [{"a": 1}])
-            self.assertEqual(self.fault(self.CHUNKED, True), "timed out")
+        for stays in True, False:
+            self.assertEqual(list(self.source(self.CHUNKED, stays).watch("t")), [{"a": 1}])
+        self.assertEqual(self.fault(self.CHUNKED, True), "timed out")
 
     CHUNKED = b'Transfer-Encoding: chunked\r\n\r\n13\r\n{"result":{"a":1}}\n\r\n'
 
@@ -266,6 +288,14 @@ class Order(Case):
             core.tried(message, lambda: core.put_entries(message, [], 9))
         self.assertEqual(core.lost, {FULL: 1})
 
+    def test_a_clock_that_is_set_back(self):
+        """The gap of what began by a later clock goes from the earlier time to the later one, as an import wants it."""
+        core = Core(mock.Mock(), 30)
+        core.now = Now(10 ** 9, 5)
+        core.lose("why", 3 * 10 ** 9)
+        gap = json.loads(core.gaps.lines(core.now, True))
+        self.assertEqual((gap["from"], gap["to"]), ("1970-01-01T00:00:01.000000Z", "1970-01-01T00:00:03.000000Z"))
+
     def test_what_was_known_when(self):
         for seed in range(100):
             random, known, told = Random(seed), Known(1), [(0, 1)]
@@ -304,6 +334,22 @@ class Files(Case):
         self.assertEqual([end.said for end in ends], [end[:2] for end in ends])
         self.assertEqual([head_of(path) for path in paths], [(number, None if number == 1 else ends[number - 2].found)
                                                             for number in range(1, len(paths) + 1)])
+
+    def test_which_store_a_log_is_of(self):
+        """By its first lines, or by the first line of a later file; those of logs of before do not say it."""
+        log, _ = self.log()
+        log.add(line("feed", store="S") + line("rules", namespaces=[]) + line("write", revision=0, base=True) + line("place", rules_sha256="r"))
+        for _ in range(3):
+            os.close(log._lock)
+            log, left = self.log()
+            self.assertEqual(left.place.store, "S")
+            log.add(write_line(1, [], []))
+        self.assertEqual(len(self.paths()), 4)
+        log.close()
+        log.place = Place(None, 1, "r")
+        log.add(write_line(2, [], []))
+        os.close(log._lock)
+        self.assertIsNone(self.log()[1].place.store)
 
     def test_what_a_killed_recorder_left_is_closed(self):
         log, _ = self.log()

@@ -10,18 +10,20 @@ from unittest import mock
 
 from new_enemy_tools.importing.events import Relationship
 from new_enemy_tools.importing.openfga import ModelReader
+from new_enemy_tools.importing.reading import Bad
 from new_enemy_tools.importing.refusals import Refusals
 from new_enemy_tools.recording.bearing import Bearing
 from new_enemy_tools.recording.core import FULL, Core, Now
 from new_enemy_tools.recording.log_files import LogFiles
 from new_enemy_tools.recording.messages import Beat, Ended, Started
-from new_enemy_tools.recording.openfga import OTHER_STORE, Base, Changes, OpenFga
+from new_enemy_tools.recording.openfga import NOT_NAMED, OTHER_STORE, Base, Changes, OpenFga
 from new_enemy_tools.recording.overlap import Change, Overlap
 from new_enemy_tools.recording.overlap import Known as Shown
 from new_enemy_tools.recording.places import Places, Row, Window, by_turns
 from new_enemy_tools.recording.spicedb import Feed as SpiceDbFeed, SpiceDb
 from new_enemy_tools.recording.stored import Stored
 from tests.simulation import RULES, STORE, Shape, Verdict, World, change_of
+from tests.stand_in_spicedb import FIRST, STEP, Snapshots
 from tests.support import Case
 
 SECOND = 10 ** 9
@@ -117,6 +119,56 @@ class BaseState(Case):
         lines = sum(one.count(b"document") for one in core.first)
         self.assertEqual(lines, 20_001)
         self.assertLess(tracemalloc.get_traced_memory()[1] / 20_000, 220)
+
+
+class OfSpiceDb(Case):
+    """What waits, and what can't be kept, of SpiceDB on PostgreSQL."""
+
+    SCHEMA = "definition user {}\ndefinition document {\nrelation viewer: user\n}"
+
+    def begin(self, *relationships):
+        self.token = Snapshots().token_of
+        source = mock.Mock(schema=lambda: (self.SCHEMA, self.token(FIRST)["token"]), relationships=lambda of, token: relationships)
+        self.service = SpiceDb()
+        self.core = Core(self.service, 30)
+        self.core.take(SpiceDbFeed(source)._base(None), Now(1, 1))
+        self.core.drained()
+
+    def check(self, number, at):
+        """One that saw what Watch has not given."""
+        request = {"consistency": {"fullyConsistent": True}, "resource": {"objectType": "document", "objectId": "d"}, "permission": "viewer",
+                   "subject": {"object": {"objectType": "user", "objectId": "u"}}, "context": {"pad": "x" * 100_000}}
+        answer = {"checkedAt": self.token(FIRST + 9 * STEP), "permissionship": "PERMISSIONSHIP_HAS_PERMISSION"}
+        self.core.take(Started(number, at, False, "check"), Now(at, at))
+        self.core.take(Ended(number, "check", "/v1/permissions/check", at, at, at, None, None, None, 200, json.dumps(request).encode(),
+                             json.dumps(answer).encode(), None), Now(at, at))
+
+    def test_of_what_waits_nothing_long_is_kept(self):
+        self.begin()
+        self.check(1, 5)
+        (one,) = self.service.pending
+        self.assertEqual((one.message.request, one.message.response, one.request), (None, None, {"consistency": {"fullyConsistent": True}}))
+
+    def test_how_many_decisions_wait(self):
+        self.begin()
+        with mock.patch("new_enemy_tools.recording.spicedb.WAITING", 2):
+            for number in range(4):
+                self.check(number, 5)
+            self.assertEqual((self.core.lost, len(self.core.held)), ({FULL: 1}, 3))
+            self.core.tick(Now(40 * SECOND, 40 * SECOND))
+            self.check(9, 40 * SECOND + 1)
+        self.assertEqual((self.core.lost, len(self.core.held)), ({FULL: 1, "the changes were more than 30 seconds behind": 3}, 1))
+
+    def test_a_base_state_with_the_end_of_a_line_in_a_name(self):
+        """It is not begun without it."""
+        for thing in "d\n", "d":
+            given = {"resource": {"objectType": "document", "objectId": thing}, "relation": "viewer",
+                     "subject": {"object": {"objectType": "user", "objectId": "u"}}}
+            if thing == "d":
+                self.begin(given)
+            else:
+                with self.assertRaisesRegex(Bad, "a relationship with a line's end in it"):
+                    self.begin(given)
 
 
 class Turns(Case):
@@ -337,19 +389,24 @@ class Writes(Case):
         lost = self.lost()
         self.assertEqual((len(lost), lost["other causes than 3"], sum(lost.values())), (4, 6, 9))
         self.check(5, 6, thing="x y" * 1000)
-        self.assertLess(max(map(len, self.lost())), 250)
+        self.assertEqual(sum(self.core.lost.values()), 10)
+        self.assertLess(max(map(len, self.core.lost)), 250)
 
     def test_a_store_that_is_made_again(self):
-        """Where nobody said which store is recorded, checks of another are lost, and counted; where somebody did, they are no loss."""
-        for store, lost in (None, {OTHER_STORE: 2}), (STORE, {}):
+        """Checks of another store than the one that is recorded are lost, unless somebody said that they are no loss; they are counted and told
+        all the same. So the log of a client that moves to another store is not as one of a client that asks no more."""
+        for store, ignores, lost in (None, False, {OTHER_STORE: 2}), (STORE, False, {NOT_NAMED: 2}), (STORE, True, {}):
             self.setUp()
-            self.service = OpenFga(store, 0, 30 * SECOND)
+            self.service = OpenFga(store, 0, 30 * SECOND, 0, False, ignores)
             self.core.service = self.service
             self.at(1, Base(STORE, None, Stored(), [], "end", *RULES, 0, 1))
-            for _ in range(2):
-                self.check(5, 6, path="/stores/T/check")
+            self.core.told.clear()
+            for path in "/stores/T/check", "/stores/%s/x/stores/T/check" % STORE:
+                self.check(5, 6, path=path)
             self.read(7, 8)
-            self.assertEqual((self.lost(), self.core.held), (lost, {}))
+            self.assertEqual((self.lost(), self.core.held, self.core.elsewhere), (lost, {}, 2))
+            self.core.end(Now(9, 9))
+            self.assertEqual(self.core.told, ["checks of other stores, which are not recorded: 2"])
 
     def test_models_that_come_one_behind_the_other_between_two_readings(self):
         """A check may have looked by one that no reading showed; one that began behind the last is by that."""
@@ -371,6 +428,14 @@ class Writes(Case):
             self.read(11, 12)
             self.assertEqual((self.lost(), self.core.held), ({FULL: 2}, {}))
             self.assertEqual([json.loads(one)["event"] for one in self.lines].count("check"), 4)
+
+    def test_what_was_given_up_leaves_room(self):
+        with mock.patch("new_enemy_tools.recording.openfga.WAITING", 3):
+            for _ in range(4):
+                self.check(5, 6)
+            self.core.tick(Now(40 * SECOND, 40 * SECOND))
+            self.check(40 * SECOND, 40 * SECOND + 1)
+            self.assertEqual((self.core.lost, len(self.core.held)), ({FULL: 1, "the changes were more than 30 seconds behind": 3}, 1))
 
     def test_of_what_waits_no_bodies_are_kept(self):
         """The changes may stand still for as long as `--hold`."""

@@ -58,7 +58,8 @@ class Raced(OpenFga):
         for race in (0.005, 0.03):
             self.room = self.path("race%g" % race)
             os.mkdir(self.room)
-            self.run_load(self.begin(race, 0))
+            # A stand-in that gets no time between the two takes longer than it should.
+            self.run_load(self.begin(race, 0, "--overlap", "10"))
             self.import_log()
             self.assertEqual(self.found(), {}, self.said_of_audit)
             self.assertEqual(self.count(), 8 * 60 + len(USERS))
@@ -125,6 +126,25 @@ class Raced(OpenFga):
         self.write(self.client, key(USERS[0], "owner", EARLY[0]), kind="deletes")
         one.sendall(body)
         self.assertIn(b'"allowed": true', self.answer(one))
+        self.end(recorder)
+        self.import_log()
+        self.assertEqual(list(self.found().values()), [{"F10 wrong reply"}])
+
+    def test_a_check_that_is_sent_behind_a_slow_one_before_a_right_is_revoked(self):
+        """It begins when the slow one has its answer."""
+        recorder = self.begin(0, 0, share="1")
+        self.write(self.client, key(USERS[0], "owner", EARLY[0]))
+        one = self.connected()
+        one.sendall(b"".join((*self.request(thing="document:waits"), *self.request())))
+        time.sleep(0.2)
+        self.write(self.client, key(USERS[0], "owner", EARLY[0]), kind="deletes")
+        direct = Client(self.service_port)
+        self.call(direct, "control-answer", {})
+        direct.close()
+        found = b""
+        while found.count(b"}") < 2:
+            found += one.recv(10_000) or self.fail(found)
+        self.assertEqual([found.count(b'"allowed": %s' % reply) for reply in (b"false", b"true")], [1, 1])
         self.end(recorder)
         self.import_log()
         self.assertEqual(list(self.found().values()), [{"F10 wrong reply"}])

@@ -13,8 +13,10 @@ from collections import Counter
 
 from new_enemy_tools.recording.command import words
 from new_enemy_tools.recording.metrics import MetricsServer, Seen, Status, StatusReader, StatusSender, exposition
+from new_enemy_tools.recording.openfga import NOT_NAMED
 from tests.ports import free_port
 from tests.recorded import READY, Client
+from tests.stand_in_openfga import OTHER, STORE
 from tests.support import EXAMPLES, TOP, Case
 from tests.test_recording_gaps import keeper_of
 from tests.test_recording_openfga import MODEL, OpenFga, key
@@ -50,14 +52,14 @@ class Metrics(Case):
         return reader
 
     def test_the_text_is_what_prometheus_reads(self):
-        status = Status(3, {'a "cause"\n\\': 2}, 1, 0.25, False)
+        status = Status(3, {'a "cause"\n\\': 2}, 1, 0.25, False, 6)
         text = exposition(self.read(Status(1, {}, 0, None, True), status), Seen(Counter(check=5, write=2), 4, 1, 2), 101.0)
         for line in text.splitlines():
             self.assertRegex(line, LINE)
         name = "new_enemy_recorder_"
         self.assertEqual(numbers_of(text), {name + one: value for one, value in {
             'requests_total{call="check"}': 5, 'requests_total{call="write"}': 2, "connections": 4, "connections_refused_total": 1,
-            "keeper_starts_total": 2, "gap_open": 0, "recorded_total": 3, 'lost_total{cause="a \\"cause\\"\\n\\\\"}': 2, "waiting": 1,
+            "keeper_starts_total": 2, "gap_open": 0, "recorded_total": 3, "other_stores_total": 6, 'lost_total{cause="a \\"cause\\"\\n\\\\"}': 2, "waiting": 1,
             "feed_lag_seconds": 1.25}.items()})
 
     def test_a_keeper_that_is_silent_or_has_a_gap_does_not_record(self):
@@ -114,12 +116,10 @@ class Saying(OpenFga):
 
         def is_told():
             told.update(numbers_of(get(port, "/metrics")[1]))
-            return told.get(name + "recorded_total") == 3 and any(one.startswith(name + "lost_total") for one in told)
+            return {one: told.get(name + one) for one in wanted} == wanted
+        wanted = {"recorded_total": 3, 'lost_total{cause="X-Content-Save and X-Content-Version on one call"}': 1, "connections": 1,
+                  'requests_total{call="check"}': 4, "gap_open": 0, "waiting": 0, "keeper_starts_total": 1}
         self.wait_for(is_told, lambda: str(told))
-        self.assertEqual({one: told[name + one] for one in ('requests_total{call="check"}', "connections", "gap_open", "waiting", "keeper_starts_total",
-                                                            'lost_total{cause="X-Content-Save and X-Content-Version on one call"}')},
-                         {'requests_total{call="check"}': 4, "connections": 1, "gap_open": 0, "waiting": 0, "keeper_starts_total": 1,
-                          'lost_total{cause="X-Content-Save and X-Content-Version on one call"}': 1})
         self.wait_for(lambda: numbers_of(get(port, "/metrics")[1])[name + "feed_lag_seconds"] < 2)
         client.close()
         # The next keeper can't begin before it was seen that there is none.
@@ -139,6 +139,57 @@ class Saying(OpenFga):
         self.wait_for(lambda: get(port, "/health")[0] == 200)
         service.kill()
         self.wait_for(lambda: get(port, "/health")[0] == 503)
+
+
+class Stores(OpenFga):
+    """A client that moves to a store that is made while the recorder runs."""
+
+    def moved(self, *words):
+        self.start_service(MODEL)
+        port = free_port()
+        recorder = self.start_recorder("--store", STORE, "--metrics", "127.0.0.1:%d" % port, *words)
+        client = Client(self.port)
+        self.assertEqual(self.check(client, "user:a", "viewer", "document:1")[1]["allowed"], False)
+        for _ in range(3):
+            body = {"tuple_key": key("user:a", "viewer", "document:1")}
+            self.assertEqual(client.ask("/stores/%s/check" % OTHER, body)[1]["allowed"], True)
+        client.close()
+        self.wait_for(lambda: numbers_of(get(port, "/metrics")[1]).get("new_enemy_recorder_other_stores_total") == 3)
+        self.end(recorder)
+        self.assertIn("record: checks of other stores, which are not recorded: 3\n", self.get("said"))
+        status, said = self.run_import("events", *self.files())
+        self.found()
+        self.put("report.txt", "\n".join(self.said_of_audit) + "\n")
+        return status, said, self.run_tool("report", "--form", "text", "trace.jsonl", "report.txt").stdout
+
+    def test_what_it_asks_there_is_not_looked_at(self):
+        status, said, report = self.moved()
+        self.assertEqual(sum(row["lost"] for row in self.of_kind("gap") if row["reason"] == NOT_NAMED), 3)
+        self.assertEqual((status, self.said_of_audit[-1]), (6, "verdict clean"))
+        for text in said, report:
+            self.assertIn("lost in gaps 3: %s\n" % NOT_NAMED, text)
+
+    def test_what_it_asks_there_where_that_is_no_concern(self):
+        status, said, report = self.moved("--ignore-other-stores")
+        self.assertEqual((status, self.of_kind("gap"), self.said_of_audit[-1]), (0, [], "verdict clean"), said)
+        self.assertNotIn("lost", report)
+
+    def test_a_folder_that_has_the_log_of_another_store(self):
+        """Nothing is recorded, and what passes is counted, however little the changes of the two stores differ."""
+        self.start_service(MODEL)
+        self.end(self.start_recorder("--store", STORE))
+        recorder = self.start_recorder("--store", OTHER, is_ready=False)
+        self.wait_for(lambda: "the log is of the store %s, and %s is to be recorded" % (STORE, OTHER) in self.get("said"), lambda: self.get("said"))
+        client = Client(self.port)
+        self.assertEqual(client.ask("/stores/%s/check" % OTHER, {"tuple_key": key("user:a", "viewer", "document:1")})[0], 200)
+        client.close()
+        self.end(recorder)
+        self.assertEqual([(row["reason"], row.get("lost")) for row in self.of_kind("gap")], [("the recorder did not run", 1)])
+
+    def test_what_does_not_go_together(self):
+        run = self.run_process("record", "--openfga", "http://127.0.0.1:1", "--listen", "127.0.0.1:1", "--out", "log", "--ignore-other-stores")
+        self.assertEqual(run.returncode, 3)
+        self.assertIn("--ignore-other-stores goes with --store", run.stderr)
 
 
 class Keys(OpenFga):

@@ -12,13 +12,15 @@ from new_enemy_tools.recording.messages import Beat
 from new_enemy_tools.recording.openfga import Changes, OpenFga
 from new_enemy_tools.recording.overlap import Change, Read
 from new_enemy_tools.recording.places import Places
+from new_enemy_tools.recording.reader import Exchange, Reader
 from new_enemy_tools.recording.spicedb import Feed, SpiceDb
+from tests.simulated_http import run_wired
 from tests.simulated_spicedb import run as run_spicedb
 from tests.simulated_spicedb import run_either
 from tests.simulation import STEP, TUPLES, Shape, run
 from tests.support import TOOLS, Case
 
-SEEDS = 1000
+SEEDS, WIRED = 1000, 300
 
 
 def shape_of(seed, **values):
@@ -59,7 +61,7 @@ class Holds(Case):
             self.assertEqual(run(seed)[1].faults(), [], "seed %d" % seed)
 
     def test_the_command(self):
-        for words in ([], ["--joined"], ["--days"], ["--spicedb"], ["--own"]):
+        for words in ([], ["--joined"], ["--days"], ["--http"], ["--spicedb"], ["--own"]):
             run = subprocess.run([sys.executable, os.path.join(TOOLS, "dev", "simulate"), "--seeds", "20", *words], capture_output=True, text=True,
                                  timeout=300)
             self.assertEqual((run.returncode, run.stdout.splitlines()[-1]), (0, "20 passed, 0 failed"), run.stderr)
@@ -145,6 +147,54 @@ class Finds(Case):
     def test_a_cache_that_is_not_told(self):
         with mock.patch.object(OpenFga, "_stale", lambda self, clock: clock):
             self.assertIn("a right reply is called wrong", self.found(stale=10 * STEP, faults=0))
+
+
+class OverHttp(Case):
+    """The same where checks are bytes of HTTP, in pieces and one behind the other; and what a recorder that reads them wrongly does is found."""
+
+    def assert_found(self, wanted):
+        for seed in range(WIRED):
+            if any(wanted in fault for fault in run_wired(seed)[1].faults()):
+                return
+        self.fail(wanted)
+
+    def test_no_right_reply_is_accused_and_no_wrong_one_passes(self):
+        recorded = lost = 0
+        for seed in range(WIRED):
+            _, verdict = run_wired(seed)
+            self.assertEqual(verdict.faults(), [], "seed %d" % seed)
+            recorded, lost = recorded + len(verdict.entries), lost + verdict.lost
+        self.assertGreater(recorded, 2 * lost)
+
+    def test_a_check_that_begins_when_its_head_comes(self):
+        kept = Reader._request
+
+        def early(reader, head):
+            length = kept(reader, head)
+            reader._tell(reader.asked)
+            return length
+        with mock.patch.object(Reader, "_request", early):
+            self.assert_found("a wrong reply is called right")
+
+    def test_a_check_that_begins_before_its_turn(self):
+        def at_once(reader):
+            found, reader.free = reader.free, bytearray()
+            while reader.coming:
+                found += reader._part_of(reader.coming[0])
+                if not reader.coming[0].is_whole or reader.coming[0].held:
+                    break
+                reader.coming.popleft()
+            return bytes(found)
+        with mock.patch.object(Reader, "passing", at_once):
+            self.assert_found("a wrong reply is called right")
+
+    def test_a_path_that_is_read_as_it_stands(self):
+        with mock.patch("new_enemy_tools.recording.reader.path_of", lambda target: target):
+            self.assert_found("checks were answered, and")
+
+    def test_a_label_that_is_read_as_latin_1(self):
+        with mock.patch.object(Exchange, "_label", lambda exchange, head, name: head.values[name].decode("latin-1").strip()):
+            self.assert_found("a check has another label than the application said")
 
 
 class OfSpiceDb(Case):

@@ -22,7 +22,7 @@ KEYS = {"rules": EVERY_EVENT | {"revision", "model", "namespaces", "came"},
         "write": EVERY_EVENT | {"revision", "base", "add", "remove", "came"},
         "check": ENTRY | {"newest"}, "content": ENTRY | {"newest"},
         "gap": EVERY_EVENT | {"from", "to", "reason", "lost"}, "unmapped": EVERY_EVENT | {"reason", "detail", "userset", "version"},
-        "feed": EVERY_EVENT | {"store", "changes"}, "read": EVERY_EVENT | {"until", "revision", "unsure"}, "log": EVERY_EVENT | {"number", "before", "service", "cursor", "revision", "rules_sha256", "behind", "apart"},
+        "feed": EVERY_EVENT | {"store", "changes"}, "read": EVERY_EVENT | {"until", "revision", "unsure"}, "log": EVERY_EVENT | {"number", "before", "service", "store", "cursor", "revision", "rules_sha256", "behind", "apart"},
         "place": EVERY_EVENT | {"cursor", "revision", "rules_sha256", "behind", "apart"}, "closed": EVERY_EVENT | {"count", "sha256"}}
 # Lines of a recorder for itself and for the chain of its files.
 RECORDER = frozenset(("log", "feed", "read", "place", "closed"))

@@ -46,13 +46,13 @@ def body_of(message: Ended) -> Any:
     elif message.encoding not in (None, "", "identity"):
         raise ValueError
     if message.call != "stream":
-        return json.loads(data)
+        return json.loads(data.decode())
     return [json.loads(one) for one in data.split(b"\n") if one.strip()]
 
 
 def request_of(message: Ended) -> Any:
     """The JSON of a request; raises ValueError, or Bad where it is of gRPC."""
-    return asked(message) if message.encoding == GRPC else json.loads(message.request or b"")
+    return asked(message) if message.encoding == GRPC else json.loads((message.request or b"").decode())
 
 
 def response_of(message: Ended) -> Any:

@@ -52,6 +52,8 @@ def words(arguments: list[str]) -> tuple[Parser, Namespace]:
     parser.add_argument("--listen", metavar="ADDRESS", help="where the application asks in place of the service, as 127.0.0.1:8090")
     parser.add_argument("--out", metavar="FOLDER", required=True, help="the folder of the log")
     parser.add_argument("--store", metavar="ID", help="the store of OpenFGA that is recorded, where there are several")
+    parser.add_argument("--ignore-other-stores", action="store_true", help="let checks of other stores than --store be no gap in the log, since "
+                        "others record them, or they are not to be audited; they are counted all the same")
     parser.add_argument("--key-file", metavar="FILE", help="a file with the key by which the recorder reads the changes")
     parser.add_argument("--tls-cert", metavar="FILE", help="speak TLS to the application, with the certificates of this file")
     parser.add_argument("--tls-key", metavar="FILE", help="the key of the certificate, where --tls-cert does not have it")
@@ -277,7 +279,8 @@ def service_of(settings: Settings) -> tuple[Service, Feed]:
     """What places the calls of a service, and what reads its changes."""
     source = source_of(settings)(settings.url, settings.key, settings.ca)
     if settings.service == "openfga":
-        made = openfga.OpenFga(settings.store, int(settings.stale * 1e9), int(settings.hold * 1e9), int(settings.horizon * 1e9), settings.only)
+        made = openfga.OpenFga(settings.store, int(settings.stale * 1e9), int(settings.hold * 1e9), int(settings.horizon * 1e9), settings.only,
+                               settings.ignores)
         return made, OpenFgaFeed(settings, source)
     return spicedb.SpiceDb(settings.only), spicedb.Feed(source, settings.only)
 
@@ -296,6 +299,8 @@ def main(arguments: list[str]) -> int:
         return keep(given.keep)
     if given.store is not None and not given.openfga:
         parser.error("--store goes with --openfga")
+    if given.ignore_other_stores and given.store is None:
+        parser.error("--ignore-other-stores goes with --store")
     if given.changes_only == (given.listen is not None):
         parser.error("give either --listen or --changes-only")
     if given.changes_only and (given.tls_cert or given.share_port):
@@ -315,7 +320,7 @@ def main(arguments: list[str]) -> int:
         parser.error(str(fault))
     settings = Settings("openfga" if given.openfga else "spicedb", given.openfga or given.spicedb, given.out, given.store,
                         key, given.grpc, given.hold, given.poll, given.stale_by, given.file_bytes, given.file_seconds,
-                        given.horizon, given.overlap, given.service_ca, given.compress, given.changes_only)
+                        given.horizon, given.overlap, given.service_ca, given.compress, given.changes_only, given.ignore_other_stores)
     try:
         return asyncio.run(Proxy(settings, url, side).run())
     except OSError as fault:

@@ -21,8 +21,8 @@ FOREVER = 1 << 63
 TOGETHER = 10 ** 9
 # So many causes are told apart, and so much of one is told: what stands in some comes from a client.
 CAUSES, LONGEST = 1000, 200
-# So many bytes of lines may wait for the changes.
-ROOM = 64 << 20
+# So many bytes of lines, and so many decisions that have no line yet, may wait for the changes.
+ROOM, WAITING = 64 << 20, 200_000
 FULL = "too many decisions wait for the changes"
 # What a gap calls the requests of a call.
 KINDS = {"check": "checks", "batch": "batches of checks", "list": "lists", "stream": "lists"}
@@ -124,6 +124,8 @@ class Core:
         # how many decisions stand in the log, and how many were lost, by cause
         self.recorded = 0
         self.lost: Counter[str] = Counter()
+        # how many calls were of other stores than the one that is recorded
+        self.elsewhere = 0
         self.ticks = 0
         self.left: Optional[Left] = None
         self.place = Place(None, 0, None)
@@ -321,6 +323,8 @@ class Core:
     def end(self, now: Now) -> None:
         """Nothing more comes: what waits is lost."""
         self.now = now
+        if self.elsewhere:
+            self.say("checks of other stores, which are not recorded: %d" % self.elsewhere)
         self.sequencer.ready = []
         self._lose_open(self.held, "the recorder ended before the changes that these needed")
 
@@ -345,8 +349,8 @@ def _moved(place: Place, commit: Commit) -> Place:
     """Where the changes are behind a commit."""
     rules = commit.rules or place.rules
     if commit.cursor is not None:
-        return Place(commit.cursor, commit.revision, rules, commit.behind, commit.apart)
-    return Place(place.cursor, commit.revision, rules, place.behind + (0 if commit.rules else commit.changes), place.apart)
+        return Place(commit.cursor, commit.revision, rules, commit.behind, commit.apart, place.store)
+    return Place(place.cursor, commit.revision, rules, place.behind + (0 if commit.rules else commit.changes), place.apart, place.store)
 
 
 def _reason(fault: Exception) -> str:

@@ -3,6 +3,7 @@
 It is strict: what a service might read in another way is no message here, so that no answer is taken for that of another request.
 """
 import re
+from functools import lru_cache
 from posixpath import normpath
 from typing import Callable, Optional
 from urllib.parse import unquote
@@ -82,6 +83,7 @@ class Head:
         return int(given)
 
 
+@lru_cache(256)
 def path_of(target: str) -> str:
     """The path that a request names, as services or what stands before them may read it: decoded, without a query, a fragment, the name of
     a host, or steps that lead back."""

@@ -45,6 +45,7 @@ class Settings(NamedTuple):
     ca: Optional[str] = None
     packs: bool = False
     only: bool = False
+    ignores: bool = False
 
 
 class Feed(Protocol):
@@ -118,7 +119,7 @@ class Keeper:
     def _status(self) -> Status:
         core = self.core
         lag = None if core.fed is None else (time.monotonic_ns() - core.fed) / 1e9
-        return Status(core.recorded, dict(core.lost), len(core.held), lag, not core.is_ready or core.is_faulty)
+        return Status(core.recorded, dict(core.lost), len(core.held), lag, not core.is_ready or core.is_faulty, core.elsewhere)
 
     def _read_proxy(self) -> None:
         for messages in messages_from(self.end):

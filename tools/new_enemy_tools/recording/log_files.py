@@ -47,7 +47,7 @@ class Place(NamedTuple):
     """Where the changes of the service are: what it gave to go on by, the last revision, and the hash of the rules in force.
 
     `behind` is how many changes the log has that come again where the service goes on by that; those of the revisions `apart`, among the
-    last so many, do not.
+    last so many, do not. `store` is OpenFGA's, where that is known.
     """
 
     cursor: Optional[str]
@@ -55,6 +55,7 @@ class Place(NamedTuple):
     rules: Optional[str]
     behind: int = 0
     apart: tuple[int, ...] = ()
+    store: Optional[str] = None
 
     @property
     def keys(self) -> dict[str, Any]:
@@ -144,7 +145,7 @@ class LogFiles:
 
     def _take_over(self, path: str) -> Optional[Left]:
         """Reads a file and closes it; None where it has no beginning, with the base state where it is the first."""
-        head, size, closed, hashed = None, 0, None, hashlib.sha256()
+        head, store, size, closed, hashed = None, None, 0, None, hashlib.sha256()
         place, writes, revision, last, count = Place(None, 0, None), 0, 0, None, 0
         with opened(path) as file:
             for raw in file:
@@ -158,6 +159,8 @@ class LogFiles:
                         raise LogFault("it has a log of %s; give another folder" % value.get("service"))
                     head = _Found(value["number"], value.get("before"))
                 kind = value.get("event")
+                if kind in ("log", "feed"):
+                    store = value.get("store")
                 if kind in ("log", "place"):
                     place, writes = _place_of(value), 0
                     revision = place.revision
@@ -181,7 +184,7 @@ class LogFiles:
             hashed.update(gap)
             self._close_left(path, size, gap + line("closed", count=count + 1, sha256=hashed.hexdigest()))
             last = time_text(now)
-        self.number, self.before = head.number, hashed.hexdigest()
+        self.number, self.before, place = head.number, hashed.hexdigest(), place._replace(store=store)
         # A file may follow that has no changes.
         self.place = place._replace(revision=revision, behind=writes + place.behind)
         return Left(place, writes, revision, last, 0)
@@ -243,8 +246,8 @@ class LogFiles:
         except OSError as fault:
             raise LogFault(fault.strerror) from None
         self._begin_counts()
-        head = line("log", number=self.number + 1, before=self.before, service=self.service, time=time_text(time.time_ns()),
-                    **self.place.keys)
+        head = line("log", number=self.number + 1, before=self.before, service=self.service, store=self.place.store,
+                    time=time_text(time.time_ns()), **self.place.keys)
         try:
             self._put(head)
         except LogFault:

@@ -47,6 +47,10 @@ class Ended(NamedTuple):
     # why what the application says with the call can't be used
     strange: Optional[str] = None
 
+    def without_bodies(self) -> "Ended":
+        """What is kept of one that waits, of which they were read."""
+        return Ended(*self[:10], None, None, *self[12:])
+
 
 class Lost(NamedTuple):
     """From when to when something was not told, how much of it and why."""

@@ -20,13 +20,14 @@ HTML = "text/html; charset=utf-8\r\nCache-Control: no-store\r\nX-Frame-Options: 
 
 class Status(NamedTuple):
     """How a keeper stands: how many entries it has recorded and lost, by cause, how many calls wait, how many seconds ago it read the
-    changes, and whether there is a gap now."""
+    changes, whether there is a gap now, and how many calls were of other stores."""
 
     recorded: int
     lost: dict[str, int]
     waiting: int
     lag: Optional[float]
     has_gap: bool
+    elsewhere: int = 0
 
 
 class StatusSender:
@@ -110,6 +111,7 @@ def exposition(reader: StatusReader, seen: Seen, now: float) -> str:
     if status is not None:
         families += [("recorded_total", "counter", "Decisions in the log, since this keeper began.", {"": status.recorded}, ""),
                      ("lost_total", "counter", "Decisions that are counted as lost, by their cause.", dict(status.lost), "cause"),
+                     ("other_stores_total", "counter", "Checks of other stores, which are not recorded.", {"": status.elsewhere}, ""),
                      ("waiting", "gauge", "Calls that wait for the changes that they may have seen.", {"": status.waiting}, "")]
         if status.lag is not None:
             families.append(("feed_lag_seconds", "gauge", "Since when the service has not told of its changes.",

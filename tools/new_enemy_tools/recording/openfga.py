@@ -21,7 +21,7 @@ from new_enemy_tools.importing.service import Answer, ServiceRules
 from new_enemy_tools.importing.times import nanoseconds
 from new_enemy_tools.recording.bearing import Bearing
 from new_enemy_tools.recording.bodies import UNHEARD, request_of, response_of
-from new_enemy_tools.recording.core import FULL, Asked, Begun, Core
+from new_enemy_tools.recording.core import FULL, WAITING, Asked, Begun, Core
 from new_enemy_tools.recording.grpc_calls import GRPC
 from new_enemy_tools.recording.lines import ODD, Came, line, time_text, unmapped_line, write_line
 from new_enemy_tools.recording.log_files import Left, Place
@@ -37,8 +37,6 @@ PATH = re.compile(r"/stores/([^/]+)/(check|batch-check|list-objects|streamed-lis
 CALLS = {"check": "check", "batch-check": "batch", "list-objects": "list", "list-users": "list", "streamed-list-objects": "stream",
          "write": "write"}
 REQUESTS = {call: "".join(word.title() for word in call.split("-")) + "Request" for call in CALLS}
-# So many decisions may wait for the changes.
-WAITING = 200_000
 # Of so many changes the times are remembered.
 TIMES = 100_000
 # Of so many changes it is remembered where each tuple's stand, for writes whose answers come later.
@@ -54,6 +52,7 @@ UNSHOWN = "a write was answered that the changes did not show within %g seconds"
 UNORDERED = "changes that came at once, in an order that is not known"
 CONSISTENT = "a check with an unknown consistency"
 OTHER_STORE = "a check of another store; the one that is recorded was the only one when the recorder began"
+NOT_NAMED = "a check of another store than --store names (see --ignore-other-stores)"
 Rules = tuple[Optional[ServiceRules], Refusals]
 Key = tuple[Relationship, bool]
 
@@ -140,11 +139,11 @@ class OpenFga:
     """`stale`, `hold` and `horizon` in nanoseconds: how long it may answer from its cache, how long a check waits, and how late the
     changes are shown at least, which is learnt where a write proves that it is more."""
 
-    def __init__(self, store: Optional[str], stale: int, hold: int, horizon: int = 0, tells: bool = False):
-        """`tells` says whether the log has from when to when each change may have come, for checks that do not pass here."""
+    def __init__(self, store: Optional[str], stale: int, hold: int, horizon: int = 0, tells: bool = False, ignores: bool = False):
+        """`tells` says whether the log has from when to when each change may have come, for checks that do not pass here; `ignores` whether
+        checks of other stores are no loss, since somebody said so."""
         self.store, self.stale, self.hold, self.horizon, self.tells = store, stale, hold, horizon, tells
-        # whether somebody said which store is recorded, so that checks of others are no loss
-        self.is_named = bool(store)
+        self.ignores, self.other_store = ignores, NOT_NAMED if store else OTHER_STORE
         # until when all changes are in the log, as it was told last
         self.told = 0
         self.takes, self.bearing = Takes(), Bearing()
@@ -216,7 +215,7 @@ class OpenFga:
         self.began, self.first = base.began, base.received
         core.sequencer.reached = revision
         behind = left.writes + left.place.behind + len(base.changes) if left else 0
-        place = Place(base.cursor, revision, rules.hash, behind, left.place.apart if left else ())
+        place = Place(base.cursor, revision, rules.hash, behind, left.place.apart if left else (), base.store)
         is_empty = not base.stored.count and not base.changes
         core.begin_log(Begun(lines if left else self._base_lines(rules.data, base.stored), is_empty, place))
 
@@ -487,8 +486,10 @@ class OpenFga:
             self.open.pop(message.number, None)
             return
         request = self._request(message)
-        if request is None and not self.is_named:
-            raise Bad(OTHER_STORE)
+        if request is None:
+            core.elsewhere += 1
+            if not self.ignores:
+                raise Bad(self.other_store)
         answers = [] if request is None else list(answers_of(request, response_of(message), UNHEARD))
         if not answers:
             core.forget(message.number)
@@ -499,16 +500,14 @@ class OpenFga:
         self.weight += len(answers)
         if self.weight > WAITING:
             raise Bad(FULL)
-        # Of what waits the bodies are not needed any more.
-        kept = message._replace(request=None, response=None)
-        self.waits.append(Waiting(kept, answers, since, newest, token, get(request, "authorization_model_id") or None))
+        self.waits.append(Waiting(message.without_bodies(), answers, since, newest, token, get(request, "authorization_model_id") or None))
 
     def _request(self, message: Ended) -> Any:
         """What a call asks of the store that is recorded, None where it is of another; over gRPC the request names it."""
         if message.encoding == GRPC:
             request = request_of(message)
             return request if self.store in (None, get(request, "store_id")) else None
-        if self.store is not None and "/stores/%s/" % self.store not in message.path:
+        if message.path.split("/")[-3:-1] != ["stores", self.store]:
             return None
         request = request_of(message)
         refuse_unknown(message.path, request)

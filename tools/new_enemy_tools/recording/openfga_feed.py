@@ -87,6 +87,10 @@ class OpenFgaFeed:
 
     def _begin(self, left: Optional[Left], put: Callable[[Any], None]) -> None:
         self.store = self.store or self._only_store()
+        if left is not None and left.place.store not in (None, self.store):
+            # Where little has changed lately, its changes would not tell.
+            raise FeedFault("the log is of the store %s, and %s is to be recorded; begin a new log in another folder" % (
+                left.place.store, self.store), True)
         began, back = time.monotonic_ns(), int(self.settings.overlap * 1e9)
         overlap, stored, changes = Overlap(left.place.cursor if left else None, back), Stored(), list[Change]()
         if left is None:

@@ -37,7 +37,9 @@ class Messages:
 
     def __init__(self, shapes: Mapping[str, Shape], strict: frozenset[str] = frozenset()):
         self.shapes, self.strict = shapes, strict
-        self.named = {shape: {field.name: field for field in fields.values()} for shape, fields in shapes.items()}
+        # the names that the fields of each have in JSON, in either spelling, with the message that stands there
+        self.named = {shape: {name: field.kind if isinstance(field.kind, str) and field.kind in shapes else None for field in fields.values()
+                              for name in (field.name, spelled(field.name))} for shape, fields in shapes.items()}
 
     def read(self, shape: str, data: bytes) -> dict[str, Any]:
         """A message as JSON; raises Malformed."""
@@ -84,12 +86,12 @@ class Messages:
         """Raises Malformed where a message in JSON has a field that is not named here; services pass over such."""
         known = self.named[shape]
         for name, given in value.items() if isinstance(value, dict) else ():
-            field = known.get(name) or known.get(spelled(name))
-            if field is None:
+            if name not in known:
                 raise Malformed("%s has a field that is not known (%s)" % (shape, name[:LONGEST]))
-            if isinstance(field.kind, str) and field.kind in self.shapes:
-                for one in given if isinstance(given, list) else [given]:
-                    self.refuse_unknown(field.kind, one)
+            kind = known[name]
+            if kind is not None:
+                for one in given if isinstance(given, list) else (given,):
+                    self.refuse_unknown(kind, one)
 
     def written(self, shape: str, value: dict[str, Any]) -> bytes:
         """A message of JSON that has the fields of its shape alone."""

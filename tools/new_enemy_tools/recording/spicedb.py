@@ -18,7 +18,7 @@ from new_enemy_tools.importing.spicedb_schema import Parser
 from new_enemy_tools.importing.zedtokens import Older, Revision, Snapshot, read_revision
 from new_enemy_tools.recording.asking import FeedFault
 from new_enemy_tools.recording.bodies import UNHEARD, request_of, response_of
-from new_enemy_tools.recording.core import Asked, Begun, Core
+from new_enemy_tools.recording.core import FULL, WAITING, Asked, Begun, Core
 from new_enemy_tools.recording.lines import line, time_text, write_line
 from new_enemy_tools.recording.log_files import Left, Place
 from new_enemy_tools.recording.messages import Ended, Started
@@ -238,7 +238,8 @@ class Feed:
 
 
 class Waiting(NamedTuple):
-    """A call on PostgreSQL, which waits for the commits that it saw, or should have seen; `begun` is when, by the clock of all processes."""
+    """A call on PostgreSQL, which waits for the commits that it saw, or should have seen; `begun` is when, by the clock of all processes. Of
+    its request what it demands is kept, and not the rest, which may be long."""
 
     message: Ended
     request: Any
@@ -267,6 +268,8 @@ class SpiceDb:
         # on PostgreSQL
         self.transactions: Optional[Transactions] = None
         self.pending: list[Waiting] = []
+        # how many decisions those have
+        self.weight = 0
         self.answered: list[Answered] = []
 
     # What the feed tells
@@ -326,7 +329,7 @@ class SpiceDb:
         answered, self.answered = self.answered, []
         for told in answered:
             self._learn(told)
-        waiting, self.pending = self.pending, []
+        waiting, self.pending, self.weight = self.pending, [], 0
         for one in waiting:
             core.tried(one.message, partial(self._wait, one, core))
 
@@ -393,6 +396,7 @@ class SpiceDb:
     def late(self, before: int) -> list[Ended]:
         found = [one.message for one in self.pending if one.message.at < before]
         self.pending = [one for one in self.pending if one.message.at >= before]
+        self.weight = sum(len(one.answers) for one in self.pending)
         self.answered = [one for one in self.answered if one.at >= before]
         return found
 
@@ -418,15 +422,17 @@ class SpiceDb:
             core.forget(message.number)
             return
         revision = revision_at(response)
-        # Of what waits the bodies are not needed any more.
-        message = message._replace(request=None, response=None)
+        message = message.without_bodies()
         if (revision.number is None) != (self.transactions is not None):
             raise Bad("a token is of another datastore than those of the changes")
         if revision.snapshot is not None:
             token = demanded_by(request) if message.save is None else message.token
             demanded = None if token is None else revision_of(token).snapshot
             self._learn(Answered(message.at, message.clock, revision.snapshot))
-            self._wait(Waiting(message, request, answers, asked.clock, revision.snapshot, demanded), core)
+            if self.weight > WAITING:
+                raise Bad(FULL)
+            kept = {"consistency": get(request, "consistency")}
+            self._wait(Waiting(message, kept, answers, asked.clock, revision.snapshot, demanded), core)
             return
         self.history.add(message.clock, revision.number or 0)
         # What had come by then may have been told a little later than the beginning.
@@ -447,6 +453,7 @@ class SpiceDb:
             self._place(*one[:3], self.history.at(one.begun), self.transactions.number(one.snapshot), core)
         else:
             self.pending.append(one)
+            self.weight += len(one.answers)
 
     def _place(self, message: Ended, request: Any, answers: list[Answer], known: int, snapshot: int, core: Core) -> None:
         unsure = any(one.start <= snapshot < one.end for one in self.unsure)
