@@ -35,7 +35,10 @@ fn are_declaring(items: &[Item<'_>], declared: &[DeclaredLine]) -> bool
     k == declared.len()
 }
 
-/// Whether what a carry begins stands in for a log, whoever made the carry.
+/// Whether what a carry begins stands in for a log, whoever made the carry. It looks for the entries that [`hand_on`]
+/// keeps, so of a carry with others it says no.
+///
+/// It is refused only where memory runs out.
 pub fn is_carry_of(
     alloc: Global,
     log: &Trace,
