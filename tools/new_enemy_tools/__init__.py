@@ -4,4 +4,4 @@ Libraries raise (faults.py); commands say what was raised, and exit.
 """
 
 # Of the tools, and of the packages that tools/dev/package makes.
-VERSION = "0.2.0"
+VERSION = "0.3.0"

@@ -9,7 +9,7 @@ from itertools import accumulate, compress, repeat
 from operator import eq, itemgetter, lt
 from typing import Iterable, Optional
 
-from new_enemy_tools.kept import Commit, LateEntries
+from new_enemy_tools.entries import Commit, LateEntries
 from new_enemy_tools.sight import Look, Sight
 from new_enemy_tools.store import Store, Touched
 from new_enemy_tools.texts import Tuple, Userset

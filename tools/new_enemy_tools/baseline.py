@@ -4,8 +4,8 @@ from collections import Counter
 from functools import lru_cache
 from typing import Callable, Iterator, Optional
 
-from new_enemy_tools.effects import Told
-from new_enemy_tools.kept import Entry
+from new_enemy_tools.effects import RatedFinding
+from new_enemy_tools.entries import Entry
 from new_enemy_tools.faults import ToolFault
 from new_enemy_tools.names import Names
 
@@ -16,7 +16,7 @@ class BaselineFault(ToolFault):
     """What is wrong with a baseline, with its file and line."""
 
 
-def key_of(told: Told, names: Names) -> str:
+def key_of(told: RatedFinding, names: Names) -> str:
     """What a finding is known by in another report: what was asked, when and with what reply, and its effect. Lines and timestamps of a
     trace change from import to import, so the service's own revision stands in their place where the import kept it."""
     return key_with(told.finding.finding, told.effect.word, asked_of(told.entry, names))

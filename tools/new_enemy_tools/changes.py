@@ -6,12 +6,12 @@ was ignored. Of a wrong reply it is the last change before its snapshot by which
 from typing import Optional
 
 from new_enemy_tools.effects import Change, Effect, Effects
-from new_enemy_tools.kept import Commit, Entry
+from new_enemy_tools.entries import Commit, Entry
 from new_enemy_tools.meaning import Outgrown
-from new_enemy_tools.order import Window, ignored
 from new_enemy_tools.reach import Reach, commit_at
 from new_enemy_tools.sight import Look
 from new_enemy_tools.texts import Tuple
+from new_enemy_tools.token_order import Window, ignored
 from new_enemy_tools.trace import Trace
 
 # So many commits are looked at for one finding, and so many questions in all; of more the change is not told.

@@ -43,6 +43,8 @@ class Coverage(NamedTuple):
     last_file: Optional[int] = None
     # why it is not known what was left out, if so
     unknown: Optional[str] = None
+    # checks of other stores, which are not recorded since somebody said that they are no concern: told, and no part of what is to be looked at
+    elsewhere: int = 0
 
     @property
     def whole(self) -> int:
@@ -66,7 +68,7 @@ class Coverage(NamedTuple):
     @property
     def is_plain(self) -> bool:
         """Whether there is nothing to say beside the count of entries."""
-        return self.is_whole or self.is_empty
+        return not self.elsewhere and (self.is_whole or self.is_empty)
 
     @property
     def percent(self) -> float:
@@ -98,14 +100,14 @@ class Coverage(NamedTuple):
                         _sum(self.not_audited, other.not_audited), _sum(self.lost, other.lost),
                         self.uncounted + other.uncounted, self.dark + other.dark, min(times, default=None), max(times, default=None),
                         self.open + other.open, self.last_file if other.last_file is None else other.last_file,
-                        self.unknown or other.unknown)
+                        self.unknown or other.unknown, self.elsewhere + other.elsewhere)
 
     def row(self) -> dict[str, Any]:
         """As an object of JSON; a key stands there where it has a value."""
         found: dict[str, Any] = {"checks": self.checks, "whole": self.whole, **{
             name: dict(value) for name, value in zip(("in_part", "not_audited", "lost"), self[1:4]) if value}}
         found.update({name: value for name, value in (("uncounted_gaps", self.uncounted), ("uncounted_ns", self.dark), ("open", self.open),
-                                                      ("last_file", self.last_file), ("unknown", self.unknown)) if value})
+                                                      ("last_file", self.last_file), ("unknown", self.unknown), ("other_stores", self.elsewhere)) if value})
         found.update({name: text_of_time(value) for name, value in (("from", self.since), ("to", self.until)) if value is not None})
         return found
 
@@ -137,6 +139,8 @@ class Coverage(NamedTuple):
         said = ["%d whole" % self.whole] + [words % _count(counted) for words, counted in counts if counted]
         if self.uncounted:
             said.append("and what was asked in %s" % ("1 gap" if self.uncounted == 1 else "%d gaps" % self.uncounted))
+        if self.elsewhere:
+            said.append("%d of other stores, which are not recorded" % self.elsewhere)
         return "checks: " + ", ".join(said)
 
     @property
@@ -174,14 +178,14 @@ def of_row(value: object) -> Coverage:
         if not isinstance(given, dict) or not all(type(one) is int and one >= 0 for one in given.values()):
             raise ValueError
         counts.append(counted(given))
-    numbers = [value.get(name, 0) for name in ("checks", "uncounted_gaps", "uncounted_ns", "open")]
+    numbers = [value.get(name, 0) for name in ("checks", "uncounted_gaps", "uncounted_ns", "open", "other_stores")]
     if not all(type(one) is int and one >= 0 for one in numbers):
         raise ValueError
     in_part, not_audited, lost = counts
     last, unknown = value.get("last_file"), value.get("unknown")
     return Coverage(numbers[0], in_part, not_audited, lost, numbers[1], numbers[2], nanoseconds(value.get("from")),
                     nanoseconds(value.get("to")), numbers[3], last if type(last) is int else None,
-                    None if unknown is None else ODD.sub("?", str(unknown)))
+                    None if unknown is None else ODD.sub("?", str(unknown)), numbers[4])
 
 
 def mark_of(coverage: Coverage) -> str:

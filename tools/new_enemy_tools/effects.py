@@ -9,13 +9,13 @@ tools' own; the program's audit does not lean on them.
 """
 from typing import Iterable, NamedTuple, Optional
 
+from new_enemy_tools.entries import Entry
 from new_enemy_tools.findings import Finding
-from new_enemy_tools.kept import Entry
 from new_enemy_tools.meaning import Outgrown, Settled
-from new_enemy_tools.order import Window, ignored
 from new_enemy_tools.reach import Reach
 from new_enemy_tools.sight import UNTOUCHED, Look
 from new_enemy_tools.texts import Tuple
+from new_enemy_tools.token_order import Window, ignored
 from new_enemy_tools.trace import Trace
 
 # The worst first.
@@ -102,7 +102,7 @@ class Effects:
         return "possible" if look.holds == entry.reply else "changed"
 
 
-class Told(NamedTuple):
+class RatedFinding(NamedTuple):
     """A finding with its entry, its effect, and the change that was ignored."""
 
     finding: Finding
@@ -126,6 +126,6 @@ class Told(NamedTuple):
         return "let in" if self.entry.reply else "kept out"
 
 
-def by_effect(told: Iterable[Told]) -> list[Told]:
+def by_effect(told: Iterable[RatedFinding]) -> list[RatedFinding]:
     """New enemies first and then the worst, otherwise in the order of the report."""
     return sorted(told, key=lambda one: (not one.is_new_enemy, RANKS[one.effect.word]))

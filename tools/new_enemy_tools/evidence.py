@@ -3,8 +3,8 @@ import re
 from typing import Callable, Iterator
 
 from new_enemy_tools import limits, strictjson, texts
-from new_enemy_tools.strictjson import Object
-from new_enemy_tools.trace import Fault, Refusal, Trace, is_u64
+from new_enemy_tools.strictjson import Object, is_u64
+from new_enemy_tools.trace import Fault, Refusal, Trace
 
 Step = Callable[[int], None]
 LINE = re.compile(rb'[ \t]*\{[ \t]*"line"[ \t]*:[ \t]*([0-9]{1,20})[ \t]*[,}]')

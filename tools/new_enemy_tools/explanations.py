@@ -2,15 +2,14 @@
 from typing import Iterator, NamedTuple, Optional
 
 from new_enemy_tools.effects import Effects
+from new_enemy_tools.entries import Commit, Entry
 from new_enemy_tools.judging import Judgement
-from new_enemy_tools.kept import Commit, Entry
 from new_enemy_tools.limits import NUMBER
 from new_enemy_tools.meaning import Outgrown, Settled
 from new_enemy_tools.names import Names
-from new_enemy_tools.order import Window, ignored, order_findings, zookie_at
 from new_enemy_tools.reach import Reach, commit_at
 from new_enemy_tools.reasons import Ground, Reason, Reasons
-from new_enemy_tools.texts import Tuple, Userset
+from new_enemy_tools.token_order import Window, ignored, order_findings, zookie_at
 from new_enemy_tools.trace import Trace
 
 SHOWN = 10

@@ -5,9 +5,9 @@ from typing import Callable, Iterator, NamedTuple, Optional
 
 from new_enemy_tools import texts
 from new_enemy_tools.baseline import asked_of, key_of, key_with
-from new_enemy_tools.effects import MEANT, Told
+from new_enemy_tools.effects import MEANT, RatedFinding
+from new_enemy_tools.entries import Entry
 from new_enemy_tools.groups import Group
-from new_enemy_tools.kept import Entry
 from new_enemy_tools.shown import plain
 from new_enemy_tools.telling import Telling
 
@@ -41,7 +41,7 @@ def places_in(groups: list[Group]) -> Places:
     return {(one.finding.line, one.finding.finding): number for number, group in enumerate(groups, 1) for one in group.told}
 
 
-def row_of(telling: Telling, told: Told) -> Row:
+def row_of(telling: Telling, told: RatedFinding) -> Row:
     """A finding as an object; a key is there where it has a value."""
     finding, entry, effect, change = told.finding, told.entry, told.effect, told.change
     log = logged(entry.source)
@@ -61,7 +61,7 @@ def _present(row: Row) -> Row:
     return {key: value for key, value in row.items() if value is not None}
 
 
-def keyed_row_of(telling: Telling, told: Told, places: Places) -> Row:
+def keyed_row_of(telling: Telling, told: RatedFinding, places: Places) -> Row:
     """The same with the number of its group, if it is told, and the key by which a baseline knows it."""
     group = places.get((told.finding.line, told.finding.finding))
     return {**row_of(telling, told), **_present({"group": group}), "key": key_of(told, telling.names)}
@@ -73,7 +73,7 @@ def sums_row(telling: Telling) -> Row:
                               "text": telling.said}, "groups": len(telling.groups), "service": telling.service, "entries": report.entries,
                      "findings": len(report.findings), "told": len(telling.told), "ignored": len(telling.ignored),
                      "known": len(telling.known), "verdict": report.verdict, "named": telling.names.ids is not None,
-                     **telling.looked._asdict(), "note": telling.looked.note, "coverage": {"state": telling.coverage.state, **telling.coverage.row()}})
+                     **telling.labels._asdict(), "note": telling.labels.note, "coverage": {"state": telling.coverage.state, **telling.coverage.row()}})
 
 
 _encoded = json.JSONEncoder(ensure_ascii=False, separators=(",", ":")).encode
@@ -109,7 +109,7 @@ class RowTexts:
         self._entries: dict[int, EntryTexts] = {}
         self._heads: dict[tuple[str, str, Optional[str]], str] = {}
 
-    def of(self, told: Told) -> str:
+    def of(self, told: RatedFinding) -> str:
         finding, effect, entry = told.finding, told.effect, told.entry
         texts = self._entries.get(entry.line)
         if texts is None:
@@ -125,7 +125,7 @@ class RowTexts:
             key_with(finding.finding, effect.word, texts.asked))
 
     @staticmethod
-    def _ignored(told: Told) -> str:
+    def _ignored(told: RatedFinding) -> str:
         change = told.change
         if change is None:
             return ""
@@ -133,7 +133,7 @@ class RowTexts:
         return ',"ignored_at":%d%s%s' % (change.at, since, ',"new_enemy":true' if told.is_new_enemy else "")
 
     @staticmethod
-    def _head(told: Told) -> str:
+    def _head(told: RatedFinding) -> str:
         return _json(_present({"finding": told.finding.finding, "text": told.finding.text, "effect": told.effect.word,
                                "severity": told.effect.severity, "outcome": told.outcome}))[1:-1]
 

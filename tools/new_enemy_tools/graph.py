@@ -2,8 +2,8 @@
 import subprocess
 from typing import Iterator, NamedTuple, Optional
 
+from new_enemy_tools.entries import Entry
 from new_enemy_tools.faults import DeviceFault
-from new_enemy_tools.kept import Entry
 from new_enemy_tools.meaning import Link, Settled
 from new_enemy_tools.names import Names
 from new_enemy_tools.reasons import Reason, Reasons

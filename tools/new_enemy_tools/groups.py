@@ -5,8 +5,8 @@ mattered, those of one request are in one group, that of the worst. Others are i
 """
 from typing import Iterable, Iterator, NamedTuple, Optional
 
-from new_enemy_tools.effects import RANKS, Told
-from new_enemy_tools.looked import Looked
+from new_enemy_tools.effects import RANKS, RatedFinding
+from new_enemy_tools.labels import Labels
 
 KINDS = {"wrong": "wrong", "undecided": "undecided", "possible": "harmless", "none": "harmless"}
 Key = tuple[object, ...]
@@ -30,13 +30,13 @@ class Sums(NamedTuple):
     distinct: Counts
     new_enemies: int
 
-    def has_stale_count(self, looked: Looked) -> bool:
+    def has_stale_count(self, labels: Labels) -> bool:
         """Whether a count of stale answers says something: where none could be looked for, none is no answer."""
-        return self.requests.let_in + self.requests.kept_out > 0 or not looked.is_none
+        return self.requests.let_in + self.requests.kept_out > 0 or not labels.is_none
 
-    def said(self, looked: Looked) -> str:
+    def said(self, labels: Labels) -> str:
         replies, stale = self.distinct, "stale answers to checks not looked for"
-        if self.has_stale_count(looked):
+        if self.has_stale_count(labels):
             stale = "%s that let someone in%s, %d that kept someone out%s" % (
                 "1 stale answer" if replies.let_in == 1 else "%d stale answers" % replies.let_in, self._asked("let_in"), replies.kept_out,
                 self._asked("kept_out"))
@@ -45,7 +45,7 @@ class Sums(NamedTuple):
         said += "%d harmless%s" % (replies.harmless, self._asked("harmless"))
         if self.new_enemies:
             said += "; of these %s" % ("1 let a new enemy in" if self.new_enemies == 1 else "%d let new enemies in" % self.new_enemies)
-        return said + ("; " + looked.counted if looked.counted else "")
+        return said + ("; " + labels.counted if labels.counted else "")
 
     def _asked(self, kind: str) -> str:
         """Of replies that were given more than once, to how many requests."""
@@ -56,13 +56,13 @@ class Sums(NamedTuple):
 class Group(NamedTuple):
     """Findings of one kind of wrong, the worst first; how many requests have them, and when the first and the last was asked."""
 
-    told: list[Told]
+    told: list[RatedFinding]
     requests: int
     since: Optional[str]
     until: Optional[str]
 
     @property
-    def worst(self) -> Told:
+    def worst(self) -> RatedFinding:
         return self.told[0]
 
     @property
@@ -87,21 +87,21 @@ class Group(NamedTuple):
 class Replies:
     """The findings of an audit by their requests."""
 
-    def __init__(self, told: list[Told]):
+    def __init__(self, told: list[RatedFinding]):
         self.told = told
         self._again = {one.reply for one in told if one.entry.again}
         # of each request its worst finding
-        self._worst: dict[Key, Told] = {}
+        self._worst: dict[Key, RatedFinding] = {}
         for one in told:
             request = self._request(one)
             known = self._worst.get(request)
             if known is None or RANKS[one.effect.word] < RANKS[known.effect.word]:
                 self._worst[request] = one
 
-    def _request(self, one: Told) -> Key:
+    def _request(self, one: RatedFinding) -> Key:
         return one.reply if one.reply in self._again else (one.finding.line,)
 
-    def _key(self, one: Told) -> Key:
+    def _key(self, one: RatedFinding) -> Key:
         entry, worst = one.entry, self._worst[self._request(one)]
         if one.outcome is None:
             return entry.kind, entry.goal, entry.reply, one.effect.word, one.finding.finding
@@ -109,13 +109,13 @@ class Replies:
 
     def groups(self) -> list[Group]:
         """New enemies first, then the worst."""
-        found: dict[Key, list[Told]] = {}
+        found: dict[Key, list[RatedFinding]] = {}
         for one in self.told:
             found.setdefault(self._key(one), []).append(one)
         groups = [self._group(told) for told in found.values()]
         return sorted(groups, key=lambda group: (not group.is_new_enemy, RANKS[group.worst.effect.word]))
 
-    def _group(self, told: list[Told]) -> Group:
+    def _group(self, told: list[RatedFinding]) -> Group:
         told = sorted(told, key=lambda one: RANKS[one.effect.word])
         # Of one length up to the seconds, and with a fraction behind it or none.
         times = sorted((one.entry.time for one in told if one.entry.time is not None), key=lambda time: time.rstrip("Z"))
@@ -128,7 +128,7 @@ class Replies:
         return Sums(_counts(worst), _counts(distinct.values()), len(enemies))
 
 
-def _counts(told: Iterable[Told]) -> Counts:
+def _counts(told: Iterable[RatedFinding]) -> Counts:
     counts = dict.fromkeys(Counts._fields, 0)
     for one in told:
         kind = ("let_in" if one.entry.reply else "kept_out") if one.effect.word == "changed" else KINDS[one.effect.word]
@@ -136,7 +136,7 @@ def _counts(told: Iterable[Told]) -> Counts:
     return Counts(**counts)
 
 
-def listed(groups: list[Group]) -> Iterator[Told]:
+def listed(groups: list[Group]) -> Iterator[RatedFinding]:
     """The worst finding of each group, and behind these all others."""
     yield from (group.worst for group in groups)
     for group in groups:

@@ -2,7 +2,7 @@
 from typing import NamedTuple, Optional
 
 from new_enemy_tools import texts
-from new_enemy_tools.kept import Entry
+from new_enemy_tools.entries import Entry
 from new_enemy_tools.meaning import Known
 from new_enemy_tools.strictjson import Object
 from new_enemy_tools.texts import Tuple, Userset

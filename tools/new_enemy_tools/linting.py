@@ -3,7 +3,7 @@ import unicodedata
 from typing import Callable, Iterator, NamedTuple
 
 from new_enemy_tools import strictjson
-from new_enemy_tools.kept import Entry
+from new_enemy_tools.entries import Entry
 from new_enemy_tools.keys import Unread, unread, unread_in_expression
 from new_enemy_tools.rules import places
 from new_enemy_tools.texts import Tuple, Userset
@@ -134,7 +134,7 @@ def odd_relations(trace: Trace, declared: dict[Name, int]) -> Iterator[Odd]:
             yield Odd(line, "relation %s#%s is read by no rule, tuple or check" % (namespace, relation))
 
 
-def odd_in(data: bytes, step: Callable[[int], None] = lambda line: None) -> list[Odd]:
+def odd_in(data: bytes, step: Callable[[int], None]) -> list[Odd]:
     """All that is odd in a trace, by its lines; raises Fault on the first line that the program refuses."""
     trace, seen = read_trace(data, step), Seen()
     for line, raw in strictjson.lines_of(data):

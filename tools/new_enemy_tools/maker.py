@@ -5,7 +5,7 @@ Tests compare it with the evidence that the program's own `make` finds.
 import json
 from typing import Union
 
-from new_enemy_tools.kept import Entry
+from new_enemy_tools.entries import Entry
 from new_enemy_tools.meaning import Settled, Step
 from new_enemy_tools.texts import Tuple
 from new_enemy_tools.trace import Trace

@@ -7,12 +7,12 @@ import hashlib
 import os
 from typing import Callable, Iterator, NamedTuple, Optional
 
-from new_enemy_tools.effects import EFFECTS, MEANT, Told
+from new_enemy_tools.effects import EFFECTS, MEANT, RatedFinding
 from new_enemy_tools.findings import FORMS
 from new_enemy_tools.forms import place_of
 from new_enemy_tools.groups import Group, listed
 from new_enemy_tools.importing.times import text_of_time
-from new_enemy_tools.looked import Looked
+from new_enemy_tools.labels import Labels
 from new_enemy_tools.meaning import Outgrown
 from new_enemy_tools.picture import drawn
 from new_enemy_tools.shown import markup
@@ -32,7 +32,7 @@ class Page(NamedTuple):
     """Its number, from 1, the findings that it shows, and the groups whose worst is among these."""
 
     number: int
-    told: list[Told]
+    told: list[RatedFinding]
     groups: list[Group]
 
 
@@ -56,9 +56,10 @@ def asset(name: str) -> str:
         return file.read()
 
 
-def color_of(verdict: str, looked: Optional[Looked]) -> str:
-    """The class of a verdict. Clean is not green where stale answers could be looked for to no check, or that is not known."""
-    return "incomplete" if verdict == "clean" and (looked is None or looked.is_none) else verdict
+def color_of(verdict: str, labels: Optional[Labels], elsewhere: int) -> str:
+    """The class of a verdict. Clean is not green where stale answers could be looked for to no check, or that is not known, nor beside
+    checks of other stores."""
+    return "incomplete" if verdict == "clean" and (labels is None or labels.is_none or elsewhere) else verdict
 
 
 def _counted(count: int, one: str, many: str) -> str:
@@ -115,18 +116,18 @@ class Writer:
         yield "<header><h1>What the audit found</h1>"
         verdict, coverage = self.telling.verdict, self.telling.coverage
         yield '<p>Verdict <span class="verdict %s">%s</span> of %s in <code>%s</code>, with %s.</p>' % (
-            color_of(verdict, self.telling.looked), VERDICTS[verdict], _counted(coverage.checks, "check", "checks"), markup(self.telling.path),
-            _counted(len(report.findings), "finding", "findings"))
+            color_of(verdict, self.telling.labels, coverage.elsewhere), VERDICTS[verdict], _counted(coverage.checks, "check", "checks"),
+            markup(self.telling.path), _counted(len(report.findings), "finding", "findings"))
         yield from self._about()
         yield '<p id="coverage">%s.</p>' % markup(coverage.said_counts[0].upper() + coverage.said_counts[1:])
         if not coverage.is_whole:
             yield '<ul id="unaudited">%s</ul>' % "".join(
-                "<li>%s</li>" % markup(one) for one in self.telling.notes if one not in (self.telling.looked.note, coverage.said))
+                "<li>%s</li>" % markup(one) for one in self.telling.notes if one not in (self.telling.labels.note, coverage.said))
         yield '<p id="said">%s.</p>' % markup(self.telling.said)
-        if self.telling.looked.note:
-            yield '<p id="note">%s</p>' % markup(self.telling.looked.note)
+        if self.telling.labels.note:
+            yield '<p id="note">%s</p>' % markup(self.telling.labels.note)
         yield '<ul class="sums">'
-        found, asked, has_stale = sums.distinct, sums.requests, sums.has_stale_count(self.telling.looked)
+        found, asked, has_stale = sums.distinct, sums.requests, sums.has_stale_count(self.telling.labels)
         if sums.new_enemies:
             yield '<li><strong class="wrong">%s</strong> let a new enemy in</li>' % format(sums.new_enemies, ",")
         for count, requests, mark, words in (
@@ -216,13 +217,13 @@ class Writer:
 
     # The table
 
-    def _data(self, told: Told) -> str:
+    def _data(self, told: RatedFinding) -> str:
         question = self.telling.names.question(told.entry.goal)
         return 'data-effect="%s" data-finding="%s" data-kind="%s" data-namespace="%s" data-object="%s" data-user="%s"' % (
             told.effect.word, told.finding.finding, told.entry.kind, markup(question.namespace), markup(question.object),
             markup(question.user))
 
-    def _where(self, told: Told) -> str:
+    def _where(self, told: RatedFinding) -> str:
         place = place_of(self.telling, told.entry)
         return "%s:%d" % place if told.entry.source else "line %d" % told.finding.line
 
@@ -234,7 +235,7 @@ class Writer:
             yield self._row(told, page)
         yield "</tbody></table></div>"
 
-    def _row(self, told: Told, page: Page) -> str:
+    def _row(self, told: RatedFinding, page: Page) -> str:
         entry, finding, names = told.entry, told.finding, self.telling.names
         question = names.question(entry.goal)
         said = "%s %s" % (finding.finding, finding.text)
@@ -255,7 +256,7 @@ class Writer:
             self._data(told), told.effect.word, shown, "".join("<td>%s</td>" % markup(cell or "") for cell in cells))
 
     @staticmethod
-    def _ignored(told: Told) -> Optional[str]:
+    def _ignored(told: RatedFinding) -> Optional[str]:
         if told.change is None:
             return None
         return "%d%s" % (told.change.at, " (%s)" % told.change.time if told.change.time else "")

@@ -1,10 +1,10 @@
 """What a goal leads to over a time, and the commits that touch it."""
 from typing import Optional
 
-from new_enemy_tools.kept import Commit
+from new_enemy_tools.entries import Commit
 from new_enemy_tools.meaning import refuse_outgrown
-from new_enemy_tools.order import Window
 from new_enemy_tools.texts import Tuple, Userset
+from new_enemy_tools.token_order import Window
 from new_enemy_tools.trace import Trace
 
 

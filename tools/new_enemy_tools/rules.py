@@ -2,7 +2,7 @@
 from typing import Iterator, NamedTuple, Optional
 
 from new_enemy_tools import limits, texts
-from new_enemy_tools.strictjson import Object
+from new_enemy_tools.strictjson import Object, is_u64
 
 FORMS = ("this", "computed", "tuple_to", "union", "intersection", "exclusion")
 
@@ -67,10 +67,6 @@ def depth(expression: Object) -> int:
     return 1 + max((depth(child) for child in children_of(expression)), default=0)
 
 
-def _is_u64(value: object) -> bool:
-    return isinstance(value, int) and not isinstance(value, bool) and 0 <= value <= limits.NUMBER
-
-
 def shape_of_expression(value: object, where: str) -> None:
     """Raises RulesFault where a value is no expression."""
     if not isinstance(value, dict):
@@ -100,7 +96,7 @@ def shape_of_expression(value: object, where: str) -> None:
 
 def _shape(value: Object) -> Declaration:
     at, name, listed = value.get("at"), value.get("name"), value.get("relations")
-    if at is not None and not _is_u64(at):
+    if at is not None and not is_u64(at):
         raise RulesFault("shape", "at is no timestamp")
     if not isinstance(name, str):
         raise RulesFault("shape", "name is no text")
@@ -112,7 +108,7 @@ def _shape(value: Object) -> Declaration:
         if not isinstance(given, dict) or not isinstance(given.get("name"), str):
             raise RulesFault("shape", "%s has no name" % where)
         stratum = 0 if given.get("stratum") is None else given["stratum"]
-        if not _is_u64(stratum) or stratum > limits.STRATUM:
+        if not is_u64(stratum) or stratum > limits.STRATUM:
             raise RulesFault("shape", "%s.stratum is no number from 0 to %d" % (where, limits.STRATUM))
         rewrite = {"this": {}} if given.get("rewrite") is None else given["rewrite"]
         shape_of_expression(rewrite, "%s.rewrite" % where)

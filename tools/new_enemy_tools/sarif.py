@@ -4,7 +4,7 @@ from typing import Iterator, Optional
 from urllib.parse import quote
 
 from new_enemy_tools.baseline import FINGERPRINT
-from new_enemy_tools.effects import Told
+from new_enemy_tools.effects import RatedFinding
 from new_enemy_tools.findings import FORMS
 from new_enemy_tools.forms import Place, Places, keyed_row_of, logged, place_of, places_in, sentence, sums_row
 from new_enemy_tools.ignoring import Row as Ignored
@@ -46,7 +46,7 @@ def _related(telling: Telling, line: int) -> Place:
     return logged(source) or Place(telling.path, line)
 
 
-def _result(telling: Telling, told: Told, ignored: Optional[Ignored], places: Places) -> dict[str, object]:
+def _result(telling: Telling, told: RatedFinding, ignored: Optional[Ignored], places: Places) -> dict[str, object]:
     row = keyed_row_of(telling, told, places)
     location = _location(place_of(telling, told.entry))
     location["logicalLocations"] = [{"fullyQualifiedName": row.get("named", row["goal"]), "kind": "resource"}]
@@ -76,7 +76,7 @@ def sarif(telling: Telling) -> Iterator[str]:
     yield '"invocations":[{"executionSuccessful":true,"toolExecutionNotifications":%s%s}],' % (
         _json(notes), ',"properties":%s' % _json({"coverage": telling.coverage.row()}))
     yield '"properties":%s,"results":[' % _json(sums_row(telling))
-    listed: list[tuple[Told, Optional[Ignored]]] = [(told, None) for told in telling.told] + list(telling.ignored)
+    listed: list[tuple[RatedFinding, Optional[Ignored]]] = [(told, None) for told in telling.told] + list(telling.ignored)
     places = places_in(telling.groups)
     for number, (told, ignored) in enumerate(listed, 1):
         yield _json(_result(telling, told, ignored, places)) + ("," if number < len(listed) else "")

@@ -1,14 +1,14 @@
 """The story of a finding that mattered: what changed, what was checked, where the check looked, and what it had to see, by time."""
 from typing import Iterator, NamedTuple, Optional
 
-from new_enemy_tools.effects import Effects, Told
+from new_enemy_tools.effects import Effects, RatedFinding
+from new_enemy_tools.entries import Commit, Entry
 from new_enemy_tools.explanations import turn_of
-from new_enemy_tools.kept import Commit, Entry
 from new_enemy_tools.meaning import Settled
 from new_enemy_tools.names import Names
-from new_enemy_tools.order import Window, ignored, zookie_at
 from new_enemy_tools.reach import Reach, commit_at
 from new_enemy_tools.reasons import Reason, Reasons
+from new_enemy_tools.token_order import Window, ignored, zookie_at
 from new_enemy_tools.trace import Trace
 
 # Of one commit, and of commits, so many are told.
@@ -56,7 +56,7 @@ class Teller:
         self.trace, self.names = trace, names
         self.effects = Effects(trace)
 
-    def story(self, told: Told) -> Story:
+    def story(self, told: RatedFinding) -> Story:
         entry, finding = told.entry, told.finding
         window = Window(entry.snapshot, entry.snapshot) if finding.finding == "F10" else ignored(self.trace, entry, finding.finding)
         pictures = list(self._pictures(told, window))
@@ -70,13 +70,13 @@ class Teller:
             kept[event.at, event.text] = event if known is None or event.is_ignored else known
         return Story(self._title(told), self._question(entry), sorted(kept.values()), list(self._remarks(told, window)), pictures)
 
-    def short_story(self, told: Told, why: str) -> Story:
+    def short_story(self, told: RatedFinding, why: str) -> Story:
         """The story of a finding whose goal is not looked at."""
         window = Window(told.entry.snapshot, told.entry.snapshot)
         return Story(self._title(told), self._question(told.entry), sorted(self._checks(told.entry, window)),
                      ["No more is told: %s." % why], [])
 
-    def _title(self, told: Told) -> str:
+    def _title(self, told: RatedFinding) -> str:
         user = self.names.question(told.entry.goal).user
         return "%s%s was %s: %s %s" % ("" if self.names.ids else "User ", user, told.outcome, told.finding.finding, told.finding.text)
 
@@ -84,7 +84,7 @@ class Teller:
         return "%s %s, and the service said %s" % (
             "Content check of" if entry.kind == "content" else "Check of", self.names.tuple(entry.goal), _word(entry.reply))
 
-    def _pictures(self, told: Told, window: Window) -> Iterator[Picture]:
+    def _pictures(self, told: RatedFinding, window: Window) -> Iterator[Picture]:
         entry = told.entry
         low = window.low if told.finding.finding == "F4" else entry.snapshot
         heads = [(low, "What the check saw, at %d" if window.high != low else "What the rules say, at %d")]
@@ -149,7 +149,7 @@ class Teller:
         if window.high > window.low:
             yield Event(window.high, 4, "seen", "This had to be seen; the answer here is %s" % _word(not entry.reply), "", False, "")
 
-    def _remarks(self, told: Told, window: Window) -> Iterator[str]:
+    def _remarks(self, told: RatedFinding, window: Window) -> Iterator[str]:
         entry, kind = told.entry, told.finding.finding
         if kind == "F2" and entry.zookie is None:
             yield "The request carried no token, so it demanded nothing."

@@ -12,6 +12,10 @@ Object = dict[str, Any]
 STRING = re.compile(rb'"(?:[^"\\]|\\.)*"')
 
 
+def is_u64(value: object) -> bool:
+    return isinstance(value, int) and not isinstance(value, bool) and 0 <= value <= limits.NUMBER
+
+
 class NotJson(Exception):
     pass
 

@@ -4,16 +4,16 @@ from datetime import date
 from typing import Callable, NamedTuple, Optional
 
 from new_enemy_tools.baseline import key_of
-from new_enemy_tools.coverage import INCOMPLETE, Coverage
 from new_enemy_tools.changes import Changes
-from new_enemy_tools.effects import Effect, Effects, Told, by_effect
+from new_enemy_tools.coverage import INCOMPLETE, Coverage
+from new_enemy_tools.effects import Effect, Effects, RatedFinding, by_effect
+from new_enemy_tools.entries import Entry
 from new_enemy_tools.findings import ON_TOKENS, Finding, Report, ReportFault
 from new_enemy_tools.groups import Group, Replies, Sums
 from new_enemy_tools.ignoring import Row
-from new_enemy_tools.kept import Entry
-from new_enemy_tools.looked import Looked
+from new_enemy_tools.labels import Labels
 from new_enemy_tools.names import Names
-from new_enemy_tools.order import order_findings
+from new_enemy_tools.token_order import order_findings
 from new_enemy_tools.trace import Trace
 
 # Of so many findings the count is told.
@@ -23,17 +23,17 @@ STEP = 64
 class Telling(NamedTuple):
     """New enemies come first, and then the worst findings."""
 
-    told: list[Told]
+    told: list[RatedFinding]
     # with the row that hides each
-    ignored: list[tuple[Told, Row]]
+    ignored: list[tuple[RatedFinding, Row]]
     # those of the baseline
-    known: list[Told]
+    known: list[RatedFinding]
     trace: Trace
     names: Names
     path: str
     report: Report
     sums: Sums
-    looked: Looked
+    labels: Labels
     coverage: Coverage
     # how many findings are told once with those of their checks at other states
     others: int
@@ -51,15 +51,15 @@ class Telling(NamedTuple):
         left = [("%d ignored", len(self.ignored)), ("%d known from the baseline", len(self.known)),
                 ("%d of the same checks at other states", self.others)]
         not_told = ", ".join(words % count for words, count in left if count)
-        return self.sums.said(self.looked) + ("; not told: " + not_told if not_told else "")
+        return self.sums.said(self.labels) + ("; not told: " + not_told if not_told else "")
 
     @property
     def notes(self) -> list[str]:
         """What was not looked at, and what to do about it."""
         covered = [] if self.coverage.is_plain else list(self.coverage.lines())
         if self.coverage.is_empty:
-            covered = ["nothing was audited: the trace has no check"]
-        return covered + ([] if self.looked.note is None else [self.looked.note])
+            covered.append("nothing was audited: the trace has no check")
+        return covered + ([] if self.labels.note is None else [self.labels.note])
 
     @property
     def verdict(self) -> str:
@@ -86,7 +86,7 @@ def _entry_of(number: int, finding: Finding, trace: Trace) -> Entry:
     return entry
 
 
-def told_of(trace: Trace, report: Report, step: Callable[[int], None] = lambda count: None) -> list[Told]:
+def told_of(trace: Trace, report: Report, step: Callable[[int], None] = lambda count: None) -> list[RatedFinding]:
     """Each finding with its entry and effect, by effect; raises ReportFault where a report is not of this trace."""
     if report.entries != len(trace.entries):
         raise ReportFault("the report has %d entries, and the trace %d" % (report.entries, len(trace.entries)))
@@ -102,8 +102,8 @@ def told_of(trace: Trace, report: Report, step: Callable[[int], None] = lambda c
     return by_effect(told)
 
 
-def _told(trace: Trace, changes: Changes, finding: Finding, entry: Entry, effect: Effect) -> Told:
-    told = Told(finding, entry, effect, changes.of(entry, finding.finding, effect))
+def _told(trace: Trace, changes: Changes, finding: Finding, entry: Entry, effect: Effect) -> RatedFinding:
+    told = RatedFinding(finding, entry, effect, changes.of(entry, finding.finding, effect))
     if told.outcome != "let in" or entry.kind != "check" or entry.issued_on is None or told.change is None:
         return told
     return told._replace(is_new_enemy=told.change.at <= trace.entries[entry.issued_on].snapshot)
@@ -125,7 +125,7 @@ class LeftOut(NamedTuple):
     today: date
 
 
-def once_a_reply(told: list[Told]) -> tuple[list[Told], int]:
+def once_a_reply(told: list[RatedFinding]) -> tuple[list[RatedFinding], int]:
     """The findings without those that a check has at another state too, and how many those are."""
     again = {one.reply for one in told if one.entry.again}
     seen: set[tuple[object, ...]] = set()
@@ -138,13 +138,13 @@ def once_a_reply(told: list[Told]) -> tuple[list[Told], int]:
     return kept, len(told) - len(kept)
 
 
-def parts_of(told: Told, names: Names) -> dict[str, str]:
+def parts_of(told: RatedFinding, names: Names) -> dict[str, str]:
     """What a finding is found by."""
     return {"finding": told.finding.finding, "effect": told.effect.word, "kind": told.entry.kind, "key": key_of(told, names),
             **names.question(told.entry.goal)._asdict()}
 
 
-def telling_of(told: list[Told], trace: Trace, names: Names, path: str, report: Report, looked: Looked, coverage: Coverage,
+def telling_of(told: list[RatedFinding], trace: Trace, names: Names, path: str, report: Report, labels: Labels, coverage: Coverage,
                out: Optional[LeftOut] = None) -> Telling:
     """Each finding is told, ignored, or known from the baseline; a key that stands there once is known once. Of a check that stands in the
     trace at several states a finding of each kind is told once."""
@@ -153,10 +153,10 @@ def telling_of(told: list[Told], trace: Trace, names: Names, path: str, report: 
     left = Counter() if out is None else Counter(out.baseline)
     if not rows and not left:
         replies = Replies(told)
-        return Telling(told, [], [], trace, names, path, report, replies.sums(), looked, coverage, others, replies.groups())
-    said: list[Told] = []
-    ignored: list[tuple[Told, Row]] = []
-    known: list[Told] = []
+        return Telling(told, [], [], trace, names, path, report, replies.sums(), labels, coverage, others, replies.groups())
+    said: list[RatedFinding] = []
+    ignored: list[tuple[RatedFinding, Row]] = []
+    known: list[RatedFinding] = []
     for one in told:
         parts = parts_of(one, names)
         row = next((row for row in rows if row.hides(parts)), None)
@@ -168,7 +168,7 @@ def telling_of(told: list[Told], trace: Trace, names: Names, path: str, report: 
         else:
             said.append(one)
     replies = Replies(said)
-    return Telling(said, ignored, known, trace, names, path, report, replies.sums(), looked, coverage, others, replies.groups())
+    return Telling(said, ignored, known, trace, names, path, report, replies.sums(), labels, coverage, others, replies.groups())
 
 
 def warnings_of(telling: Telling, out: LeftOut) -> list[str]:

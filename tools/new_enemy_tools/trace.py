@@ -4,12 +4,12 @@ from typing import Callable, Iterable, Iterator, Optional, Union
 
 from new_enemy_tools import limits, strictjson, texts
 from new_enemy_tools.edges import Edge, TupleEdges, first_broken, rule_edges
+from new_enemy_tools.entries import Commit, Commits, Entries, Entry
 from new_enemy_tools.faults import ToolFault
-from new_enemy_tools.kept import Commit, Commits, Entries, Entry
 from new_enemy_tools.rules import Rules, RulesFault
 from new_enemy_tools.sight import Look
 from new_enemy_tools.store import Store
-from new_enemy_tools.strictjson import Object
+from new_enemy_tools.strictjson import Object, is_u64
 from new_enemy_tools.texts import Tuple, Userset
 from new_enemy_tools.trace_lines import MEMBER, OtherForm, QuickCommit, is_utf8, quick_commit, quick_entry, quick_fields
 
@@ -45,10 +45,6 @@ class Refusal(Exception):
     def __init__(self, cause: str, *details: str):
         super().__init__(cause)
         self.details = list(details)
-
-
-def is_u64(value: object) -> bool:
-    return isinstance(value, int) and not isinstance(value, bool) and 0 <= value <= limits.NUMBER
 
 
 def _said(value: Object) -> tuple[Optional[str], Optional[str]]:
@@ -209,13 +205,13 @@ class Trace:
         if not isinstance(at, int) or not is_u64(at):
             raise Refusal("wrong shape", "`at` is %r, and no whole number of 64 bits" % (at,))
         sides = [self._tuples(value, key) for key in ("add", "remove")]
-        for key, given in self._keyed(value, sides):
+        for key, given in self._keyed(sides):
             self._refuse_undeclared(given.set, "%s is %s" % (key, given))
         for place, given in enumerate(sides[0]):
             self._refuse_broken(first_broken(self._edges.of(given), self.rules.stratum),
                                 "add[%d] is %s, which gives this edge" % (place, given))
         self._refuse_early(at)
-        self._refuse_twice(value, sides)
+        self._refuse_twice(sides)
         if self.touches + len(sides[0]) + len(sides[1]) > limits.TOUCHES:
             raise Refusal("too many changes", "more than %d touches" % limits.TOUCHES)
         self.touches += len(sides[0]) + len(sides[1])
@@ -240,7 +236,7 @@ class Trace:
         return self._commit_of(line, value, [self._tuples(value, key) for key in ("add", "remove")])
 
     @staticmethod
-    def _keyed(value: Object, sides: list[list[Tuple]]) -> Iterator[tuple[str, Tuple]]:
+    def _keyed(sides: list[list[Tuple]]) -> Iterator[tuple[str, Tuple]]:
         for key, side in zip(("add", "remove"), sides):
             for place, given in enumerate(side):
                 yield "%s[%d]" % (key, place), given
@@ -259,9 +255,9 @@ class Trace:
                 raise Refusal(str(fault), *_text_details("%s[%d]" % (key, place), text, fault)) from None
         return read
 
-    def _refuse_twice(self, value: Object, sides: list[list[Tuple]]) -> None:
+    def _refuse_twice(self, sides: list[list[Tuple]]) -> None:
         first: dict[Tuple, str] = {}
-        for place, (key, given) in enumerate(self._keyed(value, sides)):
+        for place, (key, given) in enumerate(self._keyed(sides)):
             if given in first:
                 raise Refusal("tuple touched twice, place %d" % place,
                               "%s is %s, which %s is too" % (key, given, first[given]))

@@ -14,10 +14,10 @@ from new_enemy_tools.monitoring.delivery import Send
 from new_enemy_tools.monitoring.holding import Holding
 from new_enemy_tools.monitoring.run import Begun, Run
 from new_enemy_tools.monitoring.stream import Chunk
-from new_enemy_tools.order import order_findings
+from new_enemy_tools.token_order import order_findings
 from new_enemy_tools.trace import read_trace
 from new_enemy_tools.windowing import carrying
-from new_enemy_tools.windowing.run import NOTHING
+from new_enemy_tools.windowing.audited_window import NOTHING
 from new_enemy_tools.windowing.state import State
 
 EARLY = ("F1", "F2", "F3", "F5", "F6")

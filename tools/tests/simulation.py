@@ -7,7 +7,6 @@ says: a right reply is never wrong at each state that the log leaves open, and a
 """
 import heapq
 import json
-from bisect import bisect_right
 from collections import Counter
 from functools import lru_cache
 from itertools import count, product
@@ -19,11 +18,8 @@ from new_enemy_tools.importing.openfga import ModelReader
 from new_enemy_tools.importing.refusals import Refusals
 from new_enemy_tools.importing.times import nanoseconds
 from new_enemy_tools.recording.core import Core, Now
-from new_enemy_tools.recording import days_joined
-from new_enemy_tools.recording.days_joined import LATE, Before, join_day
-from new_enemy_tools.recording.joining import UNKNOWN, Join
+from new_enemy_tools.recording.joining import Join
 from new_enemy_tools.recording.lines import time_text
-from new_enemy_tools.recording.live_joined import LiveJoin
 from new_enemy_tools.recording.messages import Beat, Bye, Ended, Started
 from new_enemy_tools.recording.openfga import Base, Changes, OpenFga
 from new_enemy_tools.recording.overlap import Change, Overlap
@@ -43,7 +39,8 @@ MODEL = {"schema_version": "1.1", "id": "M", "type_definitions": [
         "base": {"computedUserset": {"relation": "viewer"}}, "subtract": {"computedUserset": {"relation": "blocked"}}}}},
      "metadata": {"relations": {"viewer": {"directly_related_user_types": [USER, MEMBER]}, "blocked": {"directly_related_user_types": [USER]},
                                 "reader": {"directly_related_user_types": []}}}}]}
-USERS, DOCUMENTS, GROUPS = ("a", "b"), ("d", "e"), ("g",)
+# One has a blank of Unicode in its id, which OpenFGA takes.
+USERS, DOCUMENTS, GROUPS = ("a", "b"), ("d", "e\u00a0"), ("g",)
 TUPLES = [("document", one, relation, "user", user, None) for one in DOCUMENTS for relation in ("viewer", "blocked") for user in USERS]
 TUPLES += [("document", one, "viewer", "group", group, "member") for one in DOCUMENTS for group in GROUPS]
 TUPLES += [("group", group, "member", "user", user, None) for group in GROUPS for user in USERS]
@@ -54,13 +51,19 @@ GOALS = [("document", one, relation, user) for one in DOCUMENTS for relation in 
 OPEN = ("group", None, "model", None, None, None)
 
 
-@lru_cache(None)
-def rules(is_open=False, name="M"):
-    """The rules of the model above, or of the open one."""
-    refusals, model = Refusals(True), json.loads(json.dumps({**MODEL, "id": name}))
+def model_of(is_open, name):
+    """The model above, or the open one."""
+    model = json.loads(json.dumps({**MODEL, "id": name}))
     if is_open:
         model["type_definitions"][2]["relations"]["reader"] = {"computedUserset": {"relation": "viewer"}}
-    found = ModelReader("the model", refusals).rules(model)
+    return model
+
+
+@lru_cache(None)
+def rules(is_open=False, name="M"):
+    """The rules of that model."""
+    refusals = Refusals()
+    found = ModelReader("the model", refusals).rules(model_of(is_open, name))
     assert not refusals.refused, refusals.refused
     return found, refusals
 
@@ -149,13 +152,18 @@ class World:
         # be known that it had not come
         self.known, self.since = [], {}
         self.last_began = 0
-        # the commits of writes that passed the recorder
-        self.whole = set()
+        # the commits of writes that passed the recorder; and when the base state was read, which stands before all
+        self.whole, self.based = set(), -1 << 60
         self.tell_at = {"proxy": 0, "feed": 0}
         self.under_way, self.quiet_since = 0, 0
-        self.is_over = False
+        # whether it takes no more, and whether it was killed
+        self.is_over = self.is_killed = False
         # how many models were read
         self.model = 0
+
+    def in_doubt(self):
+        """The tuples of which the recorder knows that it does not know whether they are there."""
+        return {tuple(one) for one in self.core.service.tainted if one is not None}
 
     def everything(self):
         """All checks, and the lines of the log."""
@@ -240,23 +248,29 @@ class World:
     # The feed
 
     def _begin_store(self):
+        """What is stored is old, or was written right before the recorder begins."""
+        at = self.now - self.random.choice((10, 100)) * STEP - self.shape.horizon
         for given in self.random.sample(TUPLES, self.random.choice((0, 0, 4))):
-            self.service.commit(self.now - 5 * STEP, [(given, True)], next(self.service.places), self.now - 10 * STEP - self.shape.horizon)
+            self.service.commit(self.now - 5 * STEP, [(given, True)], next(self.service.places), at)
 
     def _begin_feed(self):
         began = self.now
         self._begin_store()
         listed, end = self.service.page(self.now, (0, 0), 100)
-        changes, stored = [change_of(one) for one in listed], Stored()
+        changes, stored, cursor = [change_of(one) for one in listed], Stored(), (0, 0)
         for change in changes:
             stored.take(change)
+        while changes and changes[0].time <= WALL + self.now - self.shape.back:
+            cursor = listed[len(listed) - len(changes)][:2]
+            del changes[0]
         self.known += [(self.now, one[4]) for one in listed]
         self.last_began = began
         self.now += STEP
-        self.overlap.begin(changes, (0, 0), end, self.now)
+        self.overlap = Overlap(cursor, self.shape.back)
+        self.overlap.go_on(changes, [], (), end, self.now)
         self.model, found = self.service.model(self.now)
         self.known += [(self.now, at) for at in self.service.models[:self.model]]
-        self.core.take(Base(STORE, None, stored, [], "end", *found, began, self.now), self._at())
+        self.core.take(Base(STORE, None, stored, changes, str(cursor), *found, began, self.now), self._at())
         self._drain()
         self.own(1, 3, self._read, self.overlap)
 
@@ -368,6 +382,8 @@ class World:
         return not asked.reply
 
     def _answer(self, asked):
+        if self.is_killed:
+            return
         asked.ended = self.now
         if asked.save and asked.reply and self.shape.shows:
             self.later(0, 8, self._show, asked)
@@ -378,46 +394,6 @@ class World:
         self._tell("proxy", Ended(asked.number, "check", "/stores/S/check", WALL + asked.began, WALL + self.now, self.now,
                                   "v%d" % asked.number if asked.save else None, asked.shows and "v%d" % asked.shows.number, None, 200,
                                   json.dumps(body).encode(), json.dumps({"allowed": asked.reply}).encode(), None))
-
-
-class Beside(World):
-    """One more recorder in a world, with clients of its own; it begins and ends when it is told."""
-
-    def __init__(self, seed, main):
-        self.main = main
-        super().__init__(seed, main.shape)
-        self.service, self.events, self.order, self.random, self.numbers = main.service, main.events, main.order, main.random, main.numbers
-        self.whole = main.whole
-
-    @property
-    def now(self):
-        return self.main.now
-
-    @now.setter
-    def now(self, at):
-        self.main.now = at
-
-    @property
-    def under_way(self):
-        return self.main.under_way
-
-    @under_way.setter
-    def under_way(self, count):
-        self.main.under_way = count
-
-    @property
-    def quiet_since(self):
-        return self.main.quiet_since
-
-    @quiet_since.setter
-    def quiet_since(self, at):
-        self.main.quiet_since = at
-
-    def _begin_store(self):
-        """What is stored was there before."""
-
-    def _show(self, saved):
-        self.main._show(saved)
 
 
 class Apart(World):
@@ -445,117 +421,6 @@ class Apart(World):
         said = [*self.said, {"event": "over", "time": time_text(WALL + self.now), "asked": len(self.said) - 1}]
         own = own_of(Given("own", lambda: (Row("own", number, row) for number, row in enumerate(said, 1)), True))
         return self.checks, list(Join([given_of("log", self.lines)], 0, [own], self.shape.stale).lines())
-
-
-class Crowd(World):
-    """Recorders of which each has a part of the requests. Some begin later, and some end before the others; versions that are saved through
-    one are shown through another."""
-
-    def __init__(self, seed, count):
-        super().__init__(seed, Shape(Random("shape %d" % seed)))
-        self.recorders = [self]
-        for beside in [Beside("%d beside %d" % (number, seed), self) for number in range(1, count)]:
-            self.later(0, self.random.choice((0, self.shape.length)), self._join, beside)
-        self.all = [self]
-        self.over = set()
-
-    def _join(self, beside):
-        self.all.append(beside)
-        self.recorders.append(beside)
-        beside._begin_feed()
-        beside.own(5, 5, beside._beat)
-        if self.random.random() < 0.3:
-            self.later(10, self.shape.length, self._leave, self.random.choice(self.recorders))
-
-    def _leave(self, recorder):
-        """It gets no more requests, and ends when those under way are done."""
-        if recorder in self.recorders and len(self.recorders) > 1:
-            self.recorders.remove(recorder)
-            self.own(60, 90, self._end, recorder)
-
-    def _end(self, recorder):
-        recorder.core.take(Bye(1), self._at())
-        recorder._drain()
-        recorder.core.end_asked(self._at())
-        recorder.core.end(self._at())
-        recorder._drain()
-        recorder.overlap = None
-        # It takes no more.
-        recorder.is_over = True
-        self.over.add(recorder)
-
-    def _request(self):
-        recorder = self.random.choice(self.recorders)
-        (recorder._write if self.random.random() < self.shape.writes else recorder._check)()
-
-    def _show(self, saved):
-        goal = self.random.choice([one for one in GOALS if one[1] == saved.goal[1]])
-        recorder = self.random.choice(self.recorders)
-        recorder._ask(Asked(next(self.numbers), goal, self.now, self.random.random() < 0.8, False, recorder, saved))
-
-    def run(self):
-        super().run()
-        for recorder in self.all[1:]:
-            if recorder not in self.over:
-                self._end(recorder)
-        return self
-
-    def everything(self):
-        """All checks, and the lines of the joined log."""
-        given = [given_of("log%d" % number, recorder.lines) for number, recorder in enumerate(self.all)]
-        self.random.shuffle(given)
-        checks = [one for recorder in self.all for one in recorder.checks]
-        return checks, list(Join(given, 0).lines())
-
-
-class Daily(Crowd):
-    """The same, whose logs are joined day by day: at some times, and of each log the base state and some of the lines from before. One that has
-    ended is named as ended at once, or later."""
-
-    def everything(self):
-        random, closed, over, before, self.days = self.random, {}, set(), Before(), []
-        for at in [*sorted(random.randint(0, self.now) for _ in range(random.randint(1, 4))), self.now]:
-            given = []
-            for number, recorder in enumerate(self.all):
-                count, name = bisect_right(recorder.drained_at, at), "log%d" % number
-                closed[name] = random.randint(closed.get(name, 0), count) if at < self.now else len(recorder.lines)
-                base = next((place for place, lines in enumerate(recorder.lines[:count], 1) if b'"event":"place"' in lines), None)
-                if base is not None:
-                    given.append(given_of(name, recorder.lines[:max(base, closed[name])]))
-                if at == self.now or recorder in self.over and closed[name] == len(recorder.lines) and random.random() < 0.5:
-                    over.add(name)
-            random.shuffle(given)
-            if given:
-                join = join_day(given, over, 0, before)
-                self.days.append((list(join.lines()), join.waiting()))
-                before = join.after()
-        return [one for recorder in self.all for one in recorder.checks], [row for lines, _ in self.days for row in lines]
-
-
-class Live(Crowd):
-    """The same, whose logs are joined while they grow: at many times, some lines of each, and at some it is begun again."""
-
-    def everything(self):
-        random, closed, over, self.days, self.begun = self.random, {}, set(), [], 1
-        names = ["log%d" % number for number in range(len(self.all))]
-        rows = {name: [*given_of(name, one.lines).rows(), Row(name, 0, {"event": "closed"})] for name, one in zip(names, self.all)}
-        join = LiveJoin(names, 0, 1e9)
-        for at in [*sorted(random.randint(0, self.now) for _ in range(random.randint(2, 12))), self.now]:
-            if random.random() < 0.2:
-                join, self.begun = LiveJoin(names, 0, 1e9, join.before, sorted(join.told)), self.begun + 1
-            for name, recorder in zip(names, self.all):
-                count = bisect_right(recorder.drained_at, at)
-                some = random.randint(closed.get(name, 0), count) if at < self.now else len(recorder.lines)
-                base = next((place for place, lines in enumerate(recorder.lines[:count], 1) if b'"event":"place"' in lines), 0)
-                closed[name] = max(some, base)
-                have = 1 + sum(lines.count(b"\n") for lines in recorder.lines[:closed[name]]) + (at == self.now)
-                for row in rows[name][join.logs[name].count:have]:
-                    join.take(name, row, 1, 0.0)
-                if at == self.now or recorder in self.over and closed[name] == len(recorder.lines) and random.random() < 0.5:
-                    over.add(name)
-            lines = join.round(over, 0.0)
-            self.days.append((lines, days_joined.Waiting(join.waiting, [])))
-        return [one for recorder in self.all for one in recorder.checks], [row for lines, _ in self.days for row in lines]
 
 
 def given_of(name, lines, service="openfga"):
@@ -652,10 +517,8 @@ class Verdict:
     def faults(self):
         """What the log says that is not so, or does not say; none where it holds."""
         answered = [one for one in self.checks if one.ended is not None]
-        found = []
-        if len(self.entries) + self.lost != len(answered):
-            found.append("%d checks were answered, and %d stand in the log and %d are counted" % (len(answered), len(self.entries), self.lost))
-        if self.states[-1] != self.world.service.states[-1] and not self.lost:
+        found = list(self._of_counts(answered))
+        if not self.states[-1] ^ self.world.service.states[-1] <= self.world.in_doubt() and not self.lost:
             found.append("the changes in the log leave another state than the service has")
         for one in answered:
             entry = self.entries.get(time_text(WALL + one.ended))
@@ -663,6 +526,10 @@ class Verdict:
             if entry is not None and not any(of == "group" or thing == one.goal[1] for of, thing in self.doubts):
                 found += self._of_check(one, *entry)
         return found
+
+    def _of_counts(self, answered):
+        if len(self.entries) + self.lost != len(answered):
+            yield "%d checks were answered, and %d stand in the log and %d are counted" % (len(answered), len(self.entries), self.lost)
 
     def _of_check(self, one, row, behind):
         low, high = row.get("newest_between") or row.get("snapshot_between") or (row["snapshot"],) * 2
@@ -700,7 +567,7 @@ class Verdict:
     def _known_before(self, one):
         """The changes that were known when a check began, by how often each came; but for those of tuples that came and went meanwhile, of
         which it is not known which write made which."""
-        known = {at for told, at in one.world.known if told <= one.began}
+        known = {at for told, at in one.world.known if told <= one.began and at > self.world.based}
         changes = self.world.service.changes
         recent = Counter(given for at in changes if one.began - 40 * STEP < at <= one.began for given, _ in changes[at])
         return Counter((tuple(part for part in given if part is not None), "add" if live else "remove")
@@ -717,6 +584,9 @@ class Verdict:
             if changes and world.since.get(at, at) <= one.ended:
                 units += [(at, changes)] if at in world.whole else [(at, [change]) for change in changes]
         others = [unit for unit in units if unit[0] not in known]
+        if len(others) > 12:
+            # Too many to be tried.
+            return True
         for chosen in product((False, True), repeat=len(others)):
             state, left = set(service.states[0]), iter(chosen)
             for at, changes in units:
@@ -726,52 +596,6 @@ class Verdict:
             if holds(state, one.goal) == one.reply:
                 return True
         return False
-
-
-class OfDays(Verdict):
-    """Also that no day has a check that names a state behind it, and that nothing is left when all logs have ended."""
-
-    def faults(self):
-        return super().faults() + list(self._of_days())
-
-    def _of_days(self):
-        last = 0
-        for rows, _ in self.world.days:
-            last = max([last, *(row["revision"] for row in rows if row.get("revision") is not None)])
-            for row in rows:
-                if row["event"] in ("check", "content") and last < max(row.get("newest_between") or row.get("snapshot_between") or [row["snapshot"]]):
-                    yield "a check names a state behind its day"
-        unknown = {tuple(row["version"]) for row in self.rows if row.get("reason") == UNKNOWN}
-        if any(row["event"] == "content" and (*row["goal"][:2], row.get("version")) in unknown for row in self.rows):
-            yield "a version is left out that was saved in time"
-        if any(row.get("reason") == LATE for row in self.rows):
-            yield "content is left out that was there in time"
-        if self.world.days[-1][1].checks:
-            yield "checks are left when all have ended"
-
-
-def run_crowd(seed, count=None, **values):
-    """The faults of one run with several recorders, whose logs are joined."""
-    world = Crowd(seed, count or Random(seed).choice((2, 2, 3)))
-    for name, value in {"shows": True, **values}.items():
-        setattr(world.shape, name, value)
-    return world, Verdict(world.run())
-
-
-def run_days(seed, **values):
-    """The faults of one run with several recorders, whose logs are joined day by day."""
-    world = Daily(seed, Random(seed).choice((1, 2, 2, 3)))
-    for name, value in {"shows": True, **values}.items():
-        setattr(world.shape, name, value)
-    return world, OfDays(world.run())
-
-
-def run_live(seed, **values):
-    """The faults of one run with several recorders, whose logs are joined while they grow."""
-    world = Live(seed, Random(seed).choice((1, 2, 2, 3)))
-    for name, value in {"shows": True, **values}.items():
-        setattr(world.shape, name, value)
-    return world, OfDays(world.run())
 
 
 def run_apart(seed, **values):

@@ -87,6 +87,9 @@ class Handler(BaseHTTPRequestHandler):
     def do_POST(self):
         self.handle_call("POST")
 
+    def do_DELETE(self):
+        self.handle_call("DELETE")
+
     def handle_call(self, method):
         body = self.body()
         if self.service.key and self.headers.get("authorization") != "Bearer " + self.service.key:

@@ -126,7 +126,7 @@ class Case(unittest.TestCase):
         self.assertEqual(status, 2, said)
         self.assertFalse(os.path.exists(self.path("trace.jsonl")))
         self.assertFalse(os.path.exists(self.path("ids.jsonl")))
-        lines = [line for line in said.splitlines() if not line.startswith(("passed over", "not audited")) and " is read as " not in line]
+        lines = [line for line in said.splitlines() if not line.startswith(("passed over", "left out", "not audited")) and " is read as " not in line]
         self.assertEqual(lines[-1], "refused %d" % (len(lines) - 1))
         self.hinted = [line for line in lines if line.endswith(HINT)]
         return [line[:-len(HINT)] if line.endswith(HINT) else line for line in lines[:-1]]

@@ -7,33 +7,29 @@ from unittest import mock
 
 from new_enemy_tools.audited import read_audited
 from new_enemy_tools.commands import report as command
-from new_enemy_tools.effects import Told
+from new_enemy_tools.effects import RatedFinding
 from new_enemy_tools.findings import read_report
-from new_enemy_tools.order import order_lines
+from new_enemy_tools.token_order import order_lines
 from new_enemy_tools.trace_lines import OtherForm
 from new_enemy_tools.telling import told_of
 from new_enemy_tools.trace import Trace, read_trace
-from tests.random_traces import NAMESPACES, RandomInput
+from tests.random_traces import NAMESPACES, PlainIds, RandomInput
 from tests.support import Case
 
 KEYS = ("kind", "at", "name", "relations", "add", "remove", "goal", "snapshot", "reply", "zookie", "version", "revision", "from")
 KINDS = ("junit", "jsonl", "sarif", "text", "annotations")
 
 
-class OldSnapshots(RandomInput):
+class OldSnapshots(PlainIds, RandomInput):
     """Random input of ids without escapes, with entries at old snapshots."""
 
     def entry(self) -> dict:
-        self.ids = [one for one in self.ids if not set(one) & set('"\\]')] or ["a"]
+        self.use_plain_ids()
         entry = super().entry()
         entry["snapshot"] = max(0, self.at - self.random.choice([0, 1, 2, 4, 8]))
         if entry["kind"] == "check":
             entry["zookie"] = "z1-%016x" % self.at
         return entry
-
-    def commit(self) -> dict:
-        self.ids = [one for one in self.ids if not set(one) & set('"\\]')] or ["a"]
-        return super().commit()
 
 
 def imported(values: list[dict]) -> bytes:
@@ -53,7 +49,7 @@ class Audited(Case):
         for number in range(60):
             yield OldSnapshots(Random("audited %d" % number), 60).values
 
-    def told(self, trace: Trace, report: str) -> list[Told]:
+    def told(self, trace: Trace, report: str) -> list[RatedFinding]:
         return told_of(trace, read_report(report))
 
     def test_effects(self) -> None:

@@ -136,4 +136,4 @@ class Blocks(BlockCase):
             log += [line_for(answer) for answer, line_for in (service.check(*service.random.choice(states)) for _ in range(20))]
         self.put("rules", json.dumps(service.model))
         self.put("log", log)
-        self.assertIn("left out", self.same(*service.words[:-1], "--skip-unmapped", "log")[1])
+        self.assertIn("left out", self.same(*service.words)[1])

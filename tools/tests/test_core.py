@@ -211,7 +211,7 @@ class Order(CoreCase):
 class Refusals(CoreCase):
     def test_tuples_and_versions(self):
         self.assertEqual(self.refusals(
-            RULES, write(1, rel(), rel()), write(2, rel(), remove=[rel()]), write(3, rel(relation="x"))), [
+            RULES, write(1, rel(), rel()), write(2, rel(), remove=[rel()]), write(3, rel(relation="x")), words=("--from-empty", "--refuse-unmapped")), [
             "log:2: doc:1#viewer@user:a is touched twice in one commit, at log:2 too",
             "log:3: doc:1#viewer@user:a is touched twice in one commit, at log:3 too",
             "log:4: tuple of a relation that the rules do not have: doc:1#x@user:a"])
@@ -297,9 +297,7 @@ class Refusals(CoreCase):
 
 
 class LeftOut(CoreCase):
-    """What --skip-unmapped leaves out: also each check that hangs on it."""
-
-    WORDS = ("--from-empty", "--skip-unmapped")
+    """What has no form is left out, and each check that hangs on it."""
 
     def test_checks_that_hang_on_a_tuple(self):
         lost = write(1, rel("1", "gone"))
@@ -308,12 +306,12 @@ class LeftOut(CoreCase):
                 "tupleset": "parent", "computed": "gone"}}}]}]}
         rows = self.lines(rules, lost, write(2, rel("2", "parent", "1", "doc"), rel("3", "parent", "2", "doc"),
                                              rel("4", "viewer", "1", "doc", "gone")),
-                          *[check(2, goal=rel(thing, relation)) for thing in "1234" for relation in ("viewer", "reader")],
-                          words=self.WORDS)
+                          *[check(2, goal=rel(thing, relation)) for thing in "1234" for relation in ("viewer", "reader")])
         self.assertEqual([row["goal"] for row in rows if row["kind"] == "check"],
                          ["doc:1#viewer@3", "doc:1#reader@3", "doc:2#viewer@3", "doc:3#viewer@3", "doc:3#reader@3", "doc:4#reader@3"])
-        self.assertEqual(self.said.splitlines()[:2], [
-            "left out 1: tuple of a relation that the rules do not have",
+        self.assertEqual(self.said.splitlines()[:3], [
+            "log:3: nobody is in doc:1#gone, a relation that the rules do not have",
+            "left out 1: tuple of a relation that the rules do not have, first at log:2: doc:1#gone@user:a",
             "not audited: %s, first at log:7: doc:2#reader@user:a" % causes.HANGS_ON_LEFT_OUT])
         self.assertIn("\nnot audited 2: %s\n" % causes.HANGS_ON_LEFT_OUT, self.said)
 
@@ -325,24 +323,24 @@ class LeftOut(CoreCase):
                           "response": {"checkedAt": {"token": "5"}, "permissionship": "PERMISSIONSHIP_NO_PERMISSION"}}
                          for name in ("lost", "open", "far", "own", "up")])
         self.put("base", "doc:1#up@doc:2\n")
-        words = ["spicedb", "--schema", "schema", "--base", "base", "--base-at", "5", "--skip-unmapped", "log"]
+        words = ["spicedb", "--schema", "schema", "--base", "base", "--base-at", "5", "log"]
         said = self.imported(*words)
-        self.assertIn("left out 1: self\n", said)
+        self.assertIn("left out 1: self, first at schema:5: doc#lost\n", said)
         self.assertIn("not audited 3: %s\n" % causes.HANGS_ON_LEFT_OUT, said)
         self.assertEqual([row["goal"] for row in self.rows("trace.jsonl") if row["kind"] == "check"],
                          ["doc:1#own@2", "doc:1#up@2"])
 
     def test_versions_go_with_their_content_check(self):
         rows = self.lines(RULES, write(1, rel()), content(1, "v", goal=rel(relation="gone")), check(1, version="v"),
-                          check(1, version="w"), words=self.WORDS)
+                          check(1, version="w"))
         self.assertEqual([(row.get("version"), row.get("part")) for row in rows[1:]], [(None, causes.VERSION_LEFT_OUT), ("w", None)])
         self.assertIn("not audited 1: %s\n" % causes.UNKNOWN_RELATION, self.said)
 
     def test_faults_are_refused_all_the_same(self):
-        status, said = self.run_import("events", *self.WORDS, self.given(
+        status, said = self.run_import("events", "--from-empty", self.given(
             RULES, write(1, rel(relation="gone")), write(1, rel(), rel())))
         self.assertEqual((status, said.splitlines()), (2, [
-            "left out 1: tuple of a relation that the rules do not have",
+            "left out 1: tuple of a relation that the rules do not have, first at log:2: doc:1#gone@user:a",
             "log:3: doc:1#viewer@user:a is touched twice in one commit, at log:3 too", "refused 1"]))
 
 

@@ -23,6 +23,13 @@ class Sums(unittest.TestCase):
         self.assertEqual([(one.is_whole, one.status(), one.state) for one in (Coverage(), Coverage(1), Coverage(0, uncounted=1))],
                          [(False, 0, "empty"), (True, 0, "whole"), (False, 6, "incomplete")])
 
+    def test_checks_of_other_stores_are_told_and_are_no_part_of_what_is_to_be_looked_at(self):
+        sum_ = Coverage(2, elsewhere=3)
+        self.assertEqual((sum_.status(), sum_.state, sum_.is_plain, sum_.unaudited), (0, "whole", False, 0))
+        self.assertEqual(list(sum_.lines()), ["checks: 2 whole, 3 of other stores, which are not recorded"])
+        self.assertEqual(of_row(sum_.plus(sum_).row()), Coverage(4, elsewhere=6))
+        self.assertEqual((Coverage(elsewhere=1).state, Coverage(elsewhere=1).is_plain), ("empty", False))
+
     def test_a_bound_lets_a_share_of_the_checks_be_unaudited(self):
         sum_ = Coverage(98, {}, {causes.CONTEXTUAL: 2})
         self.assertEqual([sum_.status(percent) for percent in (0, 1.9, 2, 50)], [6, 6, 0, 0])

@@ -9,7 +9,6 @@ from unittest import mock
 
 from new_enemy_tools import limits
 from new_enemy_tools.parting.blocks import Blocks
-from new_enemy_tools.parting.cutting import Cut
 from new_enemy_tools.parting.placing import line_of, object_of, part_of
 from new_enemy_tools.trace_lines import OBJECTS as ENTRIES, RECORDS
 from tests.random_traces import RandomInput

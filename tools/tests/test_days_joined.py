@@ -7,7 +7,7 @@ from new_enemy_tools.recording.days_joined import LATE, Before, DayJoin, join_da
 from new_enemy_tools.recording.joining import OPEN, UNKNOWN
 from new_enemy_tools.recording.log_files import LogFiles, Place
 from new_enemy_tools.recording.sketches import Given, JoinFault, Row
-from tests.simulation import run_days
+from tests.simulated_crowd import run_days
 from tests import test_joining
 from tests.recorded import Client
 from tests.support import Case

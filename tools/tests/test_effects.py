@@ -9,7 +9,7 @@ from typing import Iterator
 from unittest import mock
 
 from new_enemy_tools.effects import Effects
-from new_enemy_tools.order import ignored, order_findings
+from new_enemy_tools.token_order import ignored, order_findings
 from new_enemy_tools.texts import zookie_text
 from new_enemy_tools.trace import read_trace
 from tests.random_traces import NAMESPACES, VIEWER, RandomInput

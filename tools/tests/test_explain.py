@@ -16,7 +16,7 @@ from new_enemy_tools.evidence import check_evidence, records_of
 from new_enemy_tools.files import split_joined
 from new_enemy_tools.judging import judge
 from new_enemy_tools.meaning import Known, Settled, holds
-from new_enemy_tools.order import order_lines
+from new_enemy_tools.token_order import order_lines
 from new_enemy_tools.reasons import Reasons
 from new_enemy_tools.texts import Tuple
 from new_enemy_tools.trace import Fault, read_trace

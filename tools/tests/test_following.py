@@ -9,28 +9,24 @@ from new_enemy_tools import limits
 from new_enemy_tools.findings import FORMS
 from new_enemy_tools.parting.blocks import Blocks
 from new_enemy_tools.trace_lines import OtherForm
-from new_enemy_tools.windowing import effects
+from new_enemy_tools.windowing import window_effects
 from new_enemy_tools.windowing.auditing import How
 from new_enemy_tools.windowing.carrying import Keep
 from new_enemy_tools.windowing.faults import WindowFault
 from new_enemy_tools.windowing.following import Following
-from new_enemy_tools.windowing.reading import Own
-from new_enemy_tools.windowing.run import NOTHING, Refused, audited, audited_so_far
+from new_enemy_tools.windowing.window_bytes import Own
+from new_enemy_tools.windowing.audited_window import NOTHING, Refused, audited, audited_so_far
 from new_enemy_tools.windowing.scanning import scan, scan_checks
 from new_enemy_tools.windowing.state import State
-from tests.random_traces import RandomInput
+from tests.random_traces import PlainIds, RandomInput
 from tests.random_windows import RandomHistory, cut_at_commits
 from tests.test_windows import WindowCase
 
 KEYS = ("kind", "at", "name", "relations", "add", "remove", "goal", "snapshot", "reply", "zookie", "version")
 
 
-class PlainHistory(RandomHistory):
+class PlainHistory(PlainIds, RandomHistory):
     """With ids that need no escape, and under rules that do not change."""
-
-    def commit(self):
-        self.ids = [one for one in self.ids if not set(one) & set('"\\]')] or ["a"]
-        return super().commit()
 
     def change(self):
         return RandomInput.commit(self)
@@ -103,14 +99,14 @@ class Followed(WindowCase):
 
     def compare_effects(self, found, own):
         """They are those by the trace that is read in full; whether they could be told without."""
-        rows = effects.texts_of(found, own, None)
-        with unittest.mock.patch.object(effects, "ON_TOKENS", tuple(FORMS)):
-            self.assertEqual(effects.texts_of(found, own, None), rows)
-        with unittest.mock.patch.object(effects.Lines, "quickly", side_effect=OtherForm):
-            self.assertEqual(effects.texts_of(found, own, None), rows)
-        with unittest.mock.patch.object(effects.Lines, "in_full", side_effect=KeyError):
+        rows = window_effects.texts_of(found, own, None)
+        with unittest.mock.patch.object(window_effects, "ON_TOKENS", tuple(FORMS)):
+            self.assertEqual(window_effects.texts_of(found, own, None), rows)
+        with unittest.mock.patch.object(window_effects.Lines, "quickly", side_effect=OtherForm):
+            self.assertEqual(window_effects.texts_of(found, own, None), rows)
+        with unittest.mock.patch.object(window_effects.Lines, "in_full", side_effect=KeyError):
             try:
-                self.assertEqual(effects.texts_of(found, own, None), rows)
+                self.assertEqual(window_effects.texts_of(found, own, None), rows)
             except KeyError:
                 return False
         return len(rows.rows) > 1

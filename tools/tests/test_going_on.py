@@ -269,7 +269,7 @@ class TakenAhead(CoreCase):
         """Such a line stands behind many that were taken."""
         plain = [write(20), *[check(20, False, rel("1", "viewer", "u%d" % one)) for one in range(20)]]
         self.assertEqual(self.compare(plain), (0, True))
-        for line, status in ((write(30, ["doc", "1", "viewer", "user", "*", "*"]), 2), (write(30, base=True), 2), ({**RULES}, 0),
+        for line, status in ((write(30, ["doc", "1", "viewer", "user", "*", "*"]), 6), (write(30, base=True), 2), ({**RULES}, 0),
                              ({**OTHER, "revision": 30}, 0), ({**content(20, "x", goal=rel("1", "viewer", "u3")), "newest": True}, 2),
                              (between(check(20, False, rel("1", "viewer", "u1")), 19, 20, False), 2), ({**check(20, False, rel()), "sequence": 3}, 0)):
             self.assertEqual(self.compare([*plain, line]), (status, line.get("sequence") == 3), line)
@@ -391,7 +391,6 @@ class Refusals(CoreCase):
         self.assertIn("log:1: the rules are others than at the end of the day before", self.refusal({"event": "rules", "namespaces": [
             {"name": "doc", "relations": [{"name": "viewer", "rewrite": {"computed": "banned"}}, {"name": "banned"}]}]}))
         self.assertIn("log:1: a base state stands at the beginning", self.refusal(write(9, base=True)))
-        self.assertIn("tuples for every user of a type", self.refusal(write(9, ["doc", "1", "viewer", "user", "*", "*"])))
         self.assertIn("checks between two states", self.refusal(check(3) | {"snapshot": None, "snapshot_between": [3, 4]}))
 
     def test_files(self):
@@ -405,12 +404,23 @@ class Refusals(CoreCase):
         status, said = self.run_import("spicedb", "--schema", "schema", "--from-empty", "--go-on", "left", "--ids", "others", "log")
         self.assertEqual((status, said), (2, "left was left by an import of events, and the logs are of spicedb\n"))
 
+    def test_tuples_for_every_user_are_left_out(self):
+        """Which users there are, later days may say too."""
+        every, words = ["doc", "1", "viewer", "user", "*", "*"], ("events", "--go-on", "left", "--trace", "next", "log")
+        self.put("log", [write(9, every), check(9), check(9, False, rel("5", "banned"))])
+        said = self.imported(*words)
+        self.assertIn("left out 1: tuple for every user of a type, in a log that goes on, first at log:1: doc:1#viewer@user:*\n", said)
+        self.assertIn("checks: 1 whole, 1 not audited\n", said)
+        self.put("log", [write(10, remove=[every]), check(10, False), check(10, False, rel("5", "banned"))])
+        self.assertEqual(self.unaudited(*words), ["not audited: %s, first at log:2: doc:1#viewer@user:a" % causes.HANGS_ON_LEFT_OUT,
+                                                  "not audited 1: %s" % causes.HANGS_ON_LEFT_OUT])
+
     def test_what_is_left_out_is_known_the_next_day(self):
         """Versions whose content checks were left out, labels that were saved again, and tuples in doubt."""
         parent = rel("2", "parent", "1", "doc")
         self.put("log", [write(9, parent, rel("9", "gone")), content(9, "lost", goal=rel("1", "gone")), content(9, "twice"), write(10),
                          content(10, "twice"), {"event": "unmapped", "reason": "caveat", "userset": ["doc", "1", "viewer"]}])
-        words = ("events", "--skip-unmapped", "--go-on", "left", "--trace", "next", "log")
+        words = ("events", "--go-on", "left", "--trace", "next", "log")
         self.imported(*words)
         self.put("log", [check(10, goal=rel("5")), check(10, goal=rel("1")), check(10, goal=rel("2", "reader"))])
         self.assertEqual(self.unaudited(*words)[-1], "not audited 3: %s" % causes.HANGS_ON_LEFT_OUT)

@@ -11,7 +11,7 @@ from new_enemy_tools.recording.log_files import LogFiles
 from new_enemy_tools.recording.sketches import Given, JoinFault, Row
 from new_enemy_tools.recording.spine import Spine
 from tests.recorded import Client
-from tests.simulation import run_crowd
+from tests.simulated_crowd import run_crowd
 from tests.support import Case
 from tests.test_recording_openfga import DOCUMENTS, EARLY, FIXED, MODEL, USERS, OpenFga, key
 from tests.test_recording_spicedb import FULL, SpiceDb, at_least
@@ -52,6 +52,11 @@ class Simulated(Case):
         with mock.patch.object(Join, "_ordered", lambda self, placed: iter([placed.value])):
             self.assert_finds("a version that was saved is not known")
 
+    def test_a_recorder_that_was_killed_and_of_which_nothing_is_told(self):
+        """Its clients go on through the others."""
+        with mock.patch.object(Join, "_open", lambda self: iter(())):
+            self.assert_finds("a log that is not closed is not told")
+
     def test_content_that_stands_before_what_its_recorder_knew(self):
         def place(self, log, revision):
             return max(0, self.tracks[log].solid[self._step(log, revision)] - 1)
@@ -59,8 +64,10 @@ class Simulated(Case):
             self.assert_finds("a content check stands before a commit that was known")
 
     def test_a_write_of_several_tuples_that_only_its_own_recorder_knows_to_be_one(self):
+        shape = {"faults": 0.6, "ours": 1, "writes": 0.6, "requests": 25}
+        self.assertEqual(run_crowd(2671, **shape)[1].faults(), [])
         with mock.patch.object(Spine, "_leaders", lambda self: list(range(len(self.changes)))):
-            self.assert_finds("a wrong reply is called right", faults=0.6, ours=1, writes=0.6, requests=25)
+            self.assertIn("a wrong reply is called right", "".join(run_crowd(2671, **shape)[1].faults()))
 
 
 def lines(*values, service="openfga", store="S", changes=0):

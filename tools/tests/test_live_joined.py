@@ -9,7 +9,8 @@ from new_enemy_tools.recording.joining import UNKNOWN, Join
 from new_enemy_tools.recording.live_joined import LiveJoin, Round
 from new_enemy_tools.recording.log_files import LogFiles
 from new_enemy_tools.recording.sketches import JoinFault, Row
-from tests.simulation import given_of, run_live
+from tests.simulated_crowd import run_live
+from tests.simulation import given_of
 from tests.support import Case
 from tests.test_joining import change, check, events, lines
 
@@ -44,7 +45,7 @@ class Simulated(Case):
         folder = self.path(name)
         write(iter(rows), LogFiles(folder, "joined openfga", size=1 << 62, age=float("inf")), folder)
         log, trace, ids = (self.path(name + end) for end in ("/000001.jsonl", ".trace", ".ids"))
-        made = self.run_tool("import", "events", "--trace", trace, "--ids", ids, "--skip-unmapped", log)
+        made = self.run_tool("import", "events", "--trace", trace, "--ids", ids, log)
         self.assertIn(made.returncode, (0, 6), made.stderr)
         audit = subprocess.run([PROGRAM, "audit", trace, "--make"], capture_output=True, text=True, timeout=300)
         report = self.run_tool("report", "--form", "jsonl", trace, self.put(name + ".report", audit.stdout))

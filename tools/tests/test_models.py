@@ -143,7 +143,7 @@ class TightenedModels(Case):
         wide, tight = model(["user", "group#member"], "wide"), model(["user"], "tight")
         log = (change("user:a", condition={"name": "c"}), {"authorization_model": tight}, check(at=1, request=of("wide")),
                check(at=1, request=of("tight")), check(thing="doc:2", at=1, allowed=False, request=of("tight")))
-        said = self.imported(*self.words(wide, *log), "--skip-unmapped")
+        said = self.imported(*self.words(wide, *log))
         self.assertIn("not audited 2: check that hangs on a tuple or rule that was left out\n", said)
         self.assertEqual(self.audited(), "entries 1\nfindings 0\nverdict clean\n")
 

@@ -7,15 +7,15 @@ import subprocess
 import unittest
 import urllib.request
 
-from new_enemy_tools.looked import Looked
-from new_enemy_tools.monitoring.page import SILENT, Live, page_of
+from new_enemy_tools.labels import Labels
+from new_enemy_tools.monitoring.live_page import SILENT, Live, page_of
 from tests.ports import free_port
 from tests.support import Case
 from tests.test_core import check, rel, write
 from tests.test_monitor import BASE, PLACE, RULES, Hooked, files_of, timed
 
 BROWSER = shutil.which("chromium") or shutil.which("chromium-browser") or shutil.which("google-chrome")
-GOOD = Live("log", 1_700_000_000 * 10 ** 9, 3, 1200, {}, {}, ("checks: 1200 whole",), Looked(1200, 40, 50), (), 0.0, (), (), 0)
+GOOD = Live("log", 1_700_000_000 * 10 ** 9, 3, 1200, {}, {}, ("checks: 1200 whole",), Labels(1200, 40, 50), 0, (), 0.0, (), (), 0)
 
 
 def color_in(page):
@@ -28,7 +28,8 @@ class Colors(Case):
         self.assertEqual(color_in(page_of(GOOD, 1.0)), "clean")
         for name, live in (("what is lost", GOOD._replace(missing={"lost in gaps: it was full": 1})),
                            ("what waits", GOOD._replace(waiting=("3 checks wait for a commit that settles them",))),
-                           ("no check that names a version or carries a token", GOOD._replace(looked=Looked(1200, 0, 0)))):
+                           ("checks of other stores", GOOD._replace(elsewhere=2)),
+                           ("no check that names a version or carries a token", GOOD._replace(labels=Labels(1200, 0, 0)))):
             with self.subTest(name):
                 self.assertEqual(color_in(page_of(live, 1.0)), "incomplete")
         self.assertEqual(color_in(page_of(GOOD._replace(entries=0), 1.0)), "empty")
@@ -42,6 +43,7 @@ class Colors(Case):
     def test_what_waits_and_what_is_missing_is_told(self):
         page = page_of(GOOD._replace(missing={"lost in gaps: it was full": 7}, waiting=("right has no base state so far",), lag=12.34,
                                      behind=("webhook has not got 2 alerts: it answered 503",)), 1.0)
+        self.assertIn("2 checks were of other stores, and are not recorded.", page_of(GOOD._replace(elsewhere=2), 1.0))
         for said in ("7 lost in gaps: it was full", "right has no base state so far", "<strong>12.3 s</strong>",
                      "webhook has not got 2 alerts: it answered 503", "checks: 1200 whole"):
             self.assertIn(said, page)

@@ -16,7 +16,8 @@ from new_enemy_tools.monitoring.holding import STATE_WAIT, WRITE_WAIT, Holding
 from new_enemy_tools.monitoring.midnights import NoZone, midnight_after, zone_of
 from new_enemy_tools.monitoring.run import Begun, Run
 from new_enemy_tools.monitoring.stream import Chunk
-from new_enemy_tools.windowing.run import NOTHING
+from new_enemy_tools.windowing.audited_window import NOTHING
+from tests.random_traits import RandomLog, events
 from tests.test_circles import Ring
 from tests.test_core import CoreCase, check, content, rel, write
 from tests.test_going_on import NEWLY_READ, READ, RULES, UNREAD, between, events_of
@@ -99,6 +100,25 @@ class Streamed(CoreCase):
                 self.assertNotIn("F10", self.report(text), seed)
                 struck += wanted
         self.assertGreater(struck, 12)
+
+    def test_tuples_that_have_no_form(self):
+        """A right reply is never called wrong, and a wrong one is where nothing that it may rest on was left out."""
+        struck = 0
+        for seed in range(20):
+            log = events(RandomLog(seed, True))
+            begin = [one for one in log if one["event"] == "rules" or one.get("base")] + [PLACE]
+            rest = log[len(begin) - 1:]
+            self.assertNotIn("F10", self.report(self.stream(begin + rest, Random(seed), seed % 2 == 0)))
+            struck += sum(self.begun.stream.refusals.not_audited.values())
+            flipped = [{**one, "reply": not one["reply"]} if "reply" in one else one for one in rest]
+            found = self.report(self.stream(begin + flipped, Random(seed), seed % 2 == 0))
+            self.assertGreaterEqual(found.count("F10 wrong reply"), RandomLog(seed, True).tainted.count(False), seed)
+        self.assertGreater(struck, 20)
+
+    def test_a_tuple_for_every_user_stops_no_monitor(self):
+        log = [RULES, BASE, PLACE, write(1, [*rel("1", "viewer", "*"), "*"]), check(1, False), check(1, False, rel("2")), check(1, True, rel("3"))]
+        report = self.report(self.stream(log, Random(1)))
+        self.assertEqual((report.count("F10"), self.begun.stream.refusals.not_audited), (1, {causes.HANGS_ON_LEFT_OUT: 1}))
 
     def test_checks_that_asked_for_the_newest_state(self):
         """They demand that of their version too, whenever that was issued."""

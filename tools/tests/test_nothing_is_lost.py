@@ -149,7 +149,7 @@ class NothingIsLost(Case):
             service = StandIn(Random("nothing is lost %d" % number))
             words = service.made()
             self.put("log", [RULES, *service.log])
-            status, said = self.run_import("events", *words, "--skip-unmapped", "--jobs", "1", "log")
+            status, said = self.run_import("events", *words, "--jobs", "1", "log")
             self.assertIn(status, (0, 6), said)
             coverage = coverage_in(self.get("trace.jsonl").encode())
             lost = sum(coverage.lost.values())

@@ -69,7 +69,7 @@ class LeftOut(CoreCase):
         good = [change("user:a"), fga_check()]
         for line in (None, {"hello": 1}, fga_check(verison="v"), fga_check(content={"verison": "v"})):
             self.put("log", good + [line])
-            status, said = self.run_import("openfga", "--model", "model.json", "--from-empty", "--skip-unmapped", "log")
+            status, said = self.run_import("openfga", "--model", "model.json", "--from-empty", "log")
             self.assertEqual((status, said.splitlines()[-1]), (2, "refused 1"))
             self.assertNotIn(HINT, said)
 

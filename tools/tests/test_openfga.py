@@ -1,10 +1,12 @@
 """The front end for OpenFGA: what it maps, and what it refuses by file and line."""
 import json
 import os
+import subprocess
+import sys
 
 from new_enemy_tools.importing import causes
 from new_enemy_tools.importing.feed import NO_SNAPSHOT
-from tests.support import EXAMPLES, Case
+from tests.support import EXAMPLES, TOOLS, Case
 
 MODEL = """{
   "schema_version": "1.1", "id": "M",
@@ -43,18 +45,18 @@ class Refusals(Case):
                 self.name("log", log if isinstance(log, (bytes, str)) else list(log)))
 
     def refusals(self, *given):
-        return self.refused(*self.words(*given))
+        return self.refused(*self.words(*given), "--refuse-unmapped")
 
     def name(self, name, content):
         self.put(name, content)
         return name
 
     def test_tuples_by_line(self):
-        log = [change("user:a"), change("user:*"), change("user:a", condition={"name": "weekday"}), change("robot:a"),
+        log = [change("user:a"), change("user:*"), change("user:b", condition={"name": "weekday"}), change("robot:a"),
                change("user:a", "writer"), change("user:a", thing="paper:1")]
         self.assertEqual(self.refusals(log), [
             "log:2: tuple that the model does not take: doc:1#viewer@user:*",
-            "log:3: condition on a tuple: doc:1#viewer@user:a",
+            "log:3: condition on a tuple: doc:1#viewer@user:b",
             "log:4: tuple that the model does not take: doc:1#viewer@robot:a",
             "log:5: tuple that the model does not take: doc:1#writer@user:a",
             "log:6: tuple that the model does not take: paper:1#viewer@user:a"])
@@ -117,12 +119,6 @@ class Refusals(Case):
 
     def test_models_by_line(self):
         model = MODEL % THIS
-        wild = model.replace('"viewer": {"directly_related_user_types": [', '"viewer": {"directly_related_user_types": [\n'
-                             '{"type": "user", "wildcard": {}},\n{"type": "user", "condition": "weekday"},\n')
-        wild = wild.replace('"id": "M",', '"id": "M", "conditions": {\n"weekday": {"expression": "true"}},')
-        self.assertEqual(self.refusals([], wild), [
-            "model.json:3: condition: weekday",
-            "model.json:17: condition: weekday on user of doc#viewer"])
         self.assertEqual(self.refusals([], model.replace('"1.1"', '"1.0"')),
                          ["model.json:2: schema version '1.0': only 1.1 and 1.2 are mapped"])
         self.assertEqual(self.refusals([], model.replace('{"type": "doc"}', '{"type": "paper"}')),
@@ -342,3 +338,12 @@ class Examples(Case):
         self.assertEqual(self.audited().splitlines(), [
             "line 9: F3 not latest, see line 8", "line 11: F2 old token, see line 10", "line 13: F1 stale",
             "line 14: F10 wrong reply", "entries 7", "findings 4", "verdict dirty"])
+
+
+class InShort(Case):
+    def test_each_run_has_its_own_numbers_for_tuples_whatever_the_seed_of_python(self):
+        words = [sys.executable, "-c", "from new_enemy_tools.importing.short import short; print(*map(short, [('doc', '1')] * 2))"]
+        runs = [subprocess.run(words, cwd=TOOLS, env={**os.environ, "PYTHONHASHSEED": "0"}, capture_output=True, text=True) for _ in range(2)]
+        (one, again), (other, _) = (run.stdout.split() for run in runs)
+        self.assertEqual(one, again)
+        self.assertNotEqual(one, other)

@@ -118,9 +118,7 @@ class Language(Case):
         self.assertEqual(self.refusals(text), ["model.fga:%d: %s; `fga model transform` writes a model as JSON" % one
                                                for one in enumerate(wanted, first)])
 
-    def test_what_a_trace_has_no_form_for(self):
-        text = DSL.replace("[user]", "[user with weekday, user]") + ("condition weekday(day: string) {\n  day in {\n 'monday'}\n}\ntype more\n")
-        self.assertEqual(self.refusals(text), ["model.fga:14: condition: weekday on user of doc#banned", "model.fga:17: condition: weekday"])
+    def test_another_schema_version(self):
         self.assertEqual(self.refusals(DSL.replace("1.1", "1.0")), ["model.fga:3: schema version '1.0': only 1.1 and 1.2 are mapped"])
 
     def test_the_example_is_its_json(self):

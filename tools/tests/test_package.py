@@ -241,6 +241,7 @@ class Debian(Used):
         self.assert_shown(self.path("user"), "README.md")
         self.assert_shown(self.path("user"), "docs", "REPORTS.md")
         self.assertIn("new_enemy tools " + VERSION, done([self.installed("usr/bin/new-enemy-tools"), "--version"], self.room))
+        self.assert_finds_the_program()
         self.assertTrue([path for path in files_below(self.root) if "__pycache__" in path])
         self.assert_page(self.installed("usr/share/man/man1/new_enemy.1.gz"), PROGRAM_WORDS)
         self.assert_page(self.installed("usr/share/man/man1/new-enemy-tools.1.gz"), ["new-enemy-tools import openfga", "new-enemy-tools report"])
@@ -248,6 +249,13 @@ class Debian(Used):
         self.dpkg("--purge", "new-enemy")
         self.assertEqual([path for path in files_below(self.root) if not path.startswith("var")], [])
         self.assertEqual(files_below(self.installed("var/lib/dpkg/info")), ["format"])
+
+    def assert_finds_the_program(self) -> None:
+        """Where nobody names it, the tools run the one that the package has put into the PATH."""
+        self.put("user/window", read("examples", "one_proved_check").split("---")[0])
+        told = done([self.installed("usr/bin/new-enemy-tools"), "window", "audit", "window", "--final"], self.path("user"),
+                    PATH=self.installed("usr/bin") + os.pathsep + plain()["PATH"])
+        self.assertEqual(told.splitlines()[-1], "verdict clean")
 
     def assert_completed(self) -> None:
         """bash takes the completions, and zsh and fish where they are installed can read theirs."""

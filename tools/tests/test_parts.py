@@ -19,7 +19,7 @@ from new_enemy_tools.commands.parts import cut_command
 from new_enemy_tools.parting.manifest import read_manifest, report_path
 from new_enemy_tools.parting.merging import answer_of
 from new_enemy_tools.parting.reports import read_part_report
-from new_enemy_tools.parting.running import run_part
+from new_enemy_tools.parting.part_runs import run_part
 from tests.random_traces import RandomInput
 from tests.support import EXAMPLES, TOP, Case, Run, loaded_file
 

@@ -9,7 +9,6 @@ from random import Random
 from unittest import mock
 
 from new_enemy_tools import pieces
-from new_enemy_tools.faults import ToolFault
 from new_enemy_tools.pieces import PiecesReader, PiecesWriter, pieces_of
 from tests.support import Case
 from tests.test_core import RULES, check, content, rel, write

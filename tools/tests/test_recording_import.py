@@ -1,5 +1,9 @@
 """What import_trace makes of the lines that only a recorder writes."""
+import json
+
 from new_enemy_tools.importing import causes
+from new_enemy_tools.importing.events import Relationship
+from new_enemy_tools.recording.ruled import Takes
 from tests.test_core import RULES, CoreCase, check, content, rel, write
 
 GAP = {"event": "gap", "from": "2024-01-01T00:00:00Z", "to": "2024-01-01T00:00:01Z", "reason": "why", "lost": 2, "time": "2024-01-01T00:00:01Z"}
@@ -68,10 +72,17 @@ class Lines(CoreCase):
     def test_what_has_no_form(self):
         goal = rel()
         odd = [write(1, goal), {"event": "unmapped", "reason": "caveat", "detail": "it", "userset": goal[:3]}, check(1)]
-        self.assertEqual(self.refusals(RULES, *odd), ["log:3: caveat: it"])
-        self.kinds(*odd, words=("--from-empty", "--skip-unmapped"))
-        self.assertIn("left out 1: caveat\n", self.said)
+        self.assertEqual(self.refusals(RULES, *odd, words=("--from-empty", "--refuse-unmapped")), ["log:3: caveat: it"])
+        self.kinds(*odd)
+        self.assertIn("left out 1: caveat, first at log:3: it\n", self.said)
         self.assertIn("not audited 1: check that hangs on a tuple or rule that was left out\n", self.said)
+
+    def test_a_base_state_of_which_all_has_no_form_is_no_empty_store(self):
+        """Versions may have been saved before it, as before one that has tuples."""
+        lines = b"".join(Takes().base_lines(1, iter([(Relationship(*rel()), "caveat")]))).decode()
+        self.put("log", json.dumps(RULES) + "\n" + lines + json.dumps(check(1, False, rel("2"), version="old")) + "\n")
+        self.assertIn("audited in part 1: %s" % causes.VERSION_UNKNOWN, self.imported("events", "log"))
+        self.assertEqual(self.audited().splitlines()[-1], "verdict clean")
 
     def test_lines_of_the_chain_stand_in_no_other_log(self):
         self.assertEqual(self.refusals(RULES, {"event": "place", "cursors": "c"}), ['log:2: unknown key "cursors"; is "cursor" meant?'])

@@ -49,7 +49,7 @@ class Files(Case):
         again.close()
         again.packer.end()
         self.assertTrue(all(name.endswith(".gz") for name in self.names()))
-        refusals = Refusals(True)
+        refusals = Refusals()
         self.assertEqual(len(in_chain([os.path.join(self.path("log"), name) for name in self.names()], refusals)), len(self.names()))
         self.assertEqual((refusals.refused, refusals.open), ({}, 0))
         self.assertEqual({os.stat(os.path.join(self.path("log"), name)).st_mode & 0o777 for name in self.names()}, {0o600})

@@ -320,6 +320,23 @@ class Files(Case):
     def paths(self):
         return [os.path.join(self.path("log"), name) for name in sorted(os.listdir(self.path("log"))) if name.endswith(".jsonl")]
 
+    def test_what_is_in_doubt_stays_so_until_a_line_says_else(self):
+        """Over the end of a file too; and the last changes of the base state are known to come again."""
+        one = ("document", "d", "viewer", "user", "a")
+        log, _ = self.log(size=600)
+        log.add(line("feed", store="S", changes=2, last=[[one, True], [None, True]]))
+        self.begin(log)
+        log.place = Place("c", 0, "r", 2, doubts=(one,))
+        log.add(line("place", **log.place.keys, doubts=[one]) + line("place", **log.place.keys))
+        log.add(write_line(1, [], []) * 5)
+        os.close(log._lock)
+        self.assertGreater(len(self.paths()), 1)
+        log, left = self.log()
+        self.assertEqual((left.place.doubts, [known[:2] for known in left.changes[:2]]), ((one,), [(one, True), (None, True)]))
+        log.add(line("place", **log.place.keys, doubts=[]))
+        os.close(log._lock)
+        self.assertEqual(self.log()[1].place.doubts, ())
+
     def test_files_chain(self):
         log, left = self.log(size=300)
         self.assertIsNone(left)

@@ -1,11 +1,8 @@
 """Where the recorder puts the changes and checks of OpenFGA: what is new in a reading, what bears on a question, what is known when."""
-import ast
 import json
-import os
 import tracemalloc
 from collections import Counter
 from itertools import count
-from random import Random
 from unittest import mock
 
 from new_enemy_tools.importing.events import Relationship
@@ -14,7 +11,7 @@ from new_enemy_tools.importing.reading import Bad
 from new_enemy_tools.importing.refusals import Refusals
 from new_enemy_tools.recording.bearing import Bearing
 from new_enemy_tools.recording.core import FULL, Core, Now
-from new_enemy_tools.recording.log_files import LogFiles
+from new_enemy_tools.recording.log_files import Left
 from new_enemy_tools.recording.messages import Beat, Ended, Started
 from new_enemy_tools.recording.openfga import NOT_NAMED, OTHER_STORE, Base, Changes, OpenFga
 from new_enemy_tools.recording.overlap import Change, Overlap
@@ -22,7 +19,7 @@ from new_enemy_tools.recording.overlap import Known as Shown
 from new_enemy_tools.recording.places import Places, Row, Window, by_turns
 from new_enemy_tools.recording.spicedb import Feed as SpiceDbFeed, SpiceDb
 from new_enemy_tools.recording.stored import Stored
-from tests.simulation import RULES, STORE, Shape, Verdict, World, change_of
+from tests.simulation import RULES, STORE
 from tests.stand_in_spicedb import FIRST, STEP, Snapshots
 from tests.support import Case
 
@@ -42,7 +39,6 @@ class Overlapping(Case):
     def setUp(self):
         super().setUp()
         self.overlap = Overlap(None, 10)
-        self.overlap.begin([], None, None, 0)
 
     def take(self, listed, cursor, began):
         read = self.overlap.take(again(*listed), cursor, began, began + 1)
@@ -227,7 +223,7 @@ class Bears(Case):
                                     "viewer": {"directly_related_user_types": [{"type": "user"}, {"type": "group", "relation": "member"}]}}}}]}
 
     def test_by_the_names_of_the_rules(self):
-        refusals, bearing = Refusals(True), Bearing()
+        refusals, bearing = Refusals(), Bearing()
         bearing.add(ModelReader("m", refusals).rules(self.MODEL))
         self.assertFalse(refusals.refused)
         goal = Relationship("document", "d", "viewer", "user", "u", None)
@@ -246,7 +242,6 @@ class Writes(Case):
         self.service = OpenFga(STORE, 0, 30 * SECOND)
         self.core = Core(self.service, 30.0)
         self.overlap = Overlap(None, 10 ** 15)
-        self.overlap.begin([], None, None, 0)
         self.feed, self.numbers, self.lines = [], count(1), []
         self.at(1, Base(STORE, None, Stored(), [], "end", *RULES, 0, 1))
 
@@ -337,7 +332,7 @@ class Writes(Case):
     def test_a_base_state_that_was_read_while_a_tuple_went_and_came(self):
         """The pages showed that it came, and not that it had gone before. It is there, and the changes leave that it is not; until it comes again."""
         self.feed = [change("a", True, 2)]
-        self.overlap.begin(again(*self.feed), None, "c", 1)
+        self.overlap.go_on(again(*self.feed), [], (), "c", 1)
         self.feed.insert(0, change("a", False, 1))
         self.read(2, 3)
         self.check(4, 5)
@@ -349,6 +344,24 @@ class Writes(Case):
         self.check(14, 15)
         self.read(16, 17)
         self.assertEqual((self.core.held, self.lost()), ({}, {"changes of a tuple that do not come by turns": 1}))
+
+    def test_what_is_in_doubt_when_a_recorder_ends_is_so_for_the_next(self):
+        self.read(2, 3, change("a", True, 1))
+        self.read(4, 5, change("a", True, 2))
+        told = [row["doubts"] for row in map(json.loads, self.lines) if "doubts" in row]
+        self.assertEqual(told, [[["document", "d", "viewer", "user", "a"]]])
+        left = Left(self.core.place, 0, self.core.place.revision, None, 0)
+        self.service = OpenFga(STORE, 0, 30 * SECOND)
+        self.core = Core(self.service, 30.0)
+        self.core.left = left
+        self.at(11, Base(STORE, left, Stored(), [], "c", *RULES, 10, 11))
+        self.check(12, 13)
+        self.check(12, 13, "e")
+        self.read(14, 15)
+        self.read(16, 17, change("a", False, 3))
+        self.check(18, 19)
+        self.read(20, 21)
+        self.assertEqual((self.core.held, self.lost()["changes of a tuple that do not come by turns"], self.core.place.doubts), ({}, 1, ()))
 
     def test_too_many_in_doubt_put_all_in_doubt(self):
         with mock.patch("new_enemy_tools.recording.openfga.TAINTED", 3):
@@ -449,77 +462,3 @@ class Writes(Case):
             self.read(31, 40)
             self.read(41, 50)
             self.assertEqual(self.lost(), {"more than 3 changes came while a check was under way": 1})
-
-
-class Restarting(World):
-    """The recorder is killed now and then, and the next one goes on with what it left."""
-
-    def __init__(self, seed, folder):
-        shape = Shape(Random("shape %d" % seed))
-        shape.back = 12 * 10 ** 6
-        super().__init__(seed, shape)
-        self.folder = folder
-        self.log = LogFiles(folder, "openfga", size=self.random.choice((900, 1 << 20)))
-        self.log.lock()
-        self.kills = 2
-
-    def run(self):
-        for _ in range(self.kills):
-            self.later(10, self.shape.length, self._kill)
-        return super().run()
-
-    def _drain(self):
-        super()._drain()
-        if self.lines[-1]:
-            self.log.add(self.lines[-1])
-            self.log.place = self.core.place
-
-    def _kill(self):
-        if not self.core.is_ready or self.core.place.rules is None:
-            return
-        os.close(self.log._lock)
-        self.log = LogFiles(self.folder, "openfga", size=self.log.limit)
-        self.log.lock()
-        left = self.log.recover()
-        self.core = Core(OpenFga(STORE, self.shape.stale, self.shape.hold, self.shape.told_horizon), self.shape.hold / 1e9)
-        self.core.left = left
-        cursor = self.end if left.place.cursor == "end" else ast.literal_eval(left.place.cursor)
-        self.overlap = Overlap(cursor, self.shape.back)
-        listed, end = self.service.page(self.now, cursor, 1000)
-        began, self.now = self.now, self.now + 1000
-        new = self.overlap.go_on([change_of(one) for one in listed], left.changes, left.place.apart, end, self.now)
-        assert new is not None, "the feed does not show what the log has"
-        self.known += [(self.now, one[4]) for one in listed]
-        self.last_began = began
-        for one in listed:
-            self.since.setdefault(one[4], 0)
-        self.core.take(Base(STORE, left, Stored(), new, left.place.cursor, *RULES, began, self.now), self._at())
-        self._drain()
-        self.own(1, 3, self._read, self.overlap)
-
-    def _begin_feed(self):
-        super()._begin_feed()
-        self.end = self.overlap.mark.cursor
-
-
-class Killed(Case):
-    def test_a_recorder_that_is_killed_and_goes_on(self):
-        """Nothing is recorded twice, no change is left out, and no right reply is called wrong."""
-        killed = 0
-        for seed in range(120):
-            world = Restarting(seed, self.path("log%d" % seed))
-            world.run()
-            verdict = Verdict(world)
-            killed += world.core.left is not None
-            # A write that was asked before the recorder began again says nothing by its answer.
-            faults = [one for one in verdict.faults() if "were answered" not in one and "a commit that was known" not in one]
-            self.assertEqual(faults, [], seed)
-            written = Counter()
-            for row in verdict.rows:
-                if row["event"] == "write":
-                    # Each change has a line.
-                    written.update((tuple(one), True) for one in row.get("add", ()))
-                    written.update((tuple(one), False) for one in row.get("remove", ()))
-            feed = Counter((tuple(one for one in row[2] if one is not None), row[3]) for row in world.service.feed)
-            self.assertEqual(written, feed, seed)
-        self.assertGreater(killed, 80)

@@ -18,9 +18,11 @@ from tests.ports import free_port
 from tests.recorded import READY, Client
 from tests.stand_in_openfga import OTHER, STORE
 from tests.support import EXAMPLES, TOP, Case
+from tests.test_day import WORDS
 from tests.test_recording_gaps import keeper_of
 from tests.test_recording_openfga import MODEL, OpenFga, key
 
+ELSEWHERE = "checks: %d whole, %d of other stores, which are not recorded"
 UNIT = "new-enemy-recorder@.service"
 LINE = re.compile(r'(?:# (?:HELP|TYPE) .+|[a-z_]+(?:\{[a-z]+="(?:[^"\\]|\\.)*"\})? -?[0-9.e+]+)')
 
@@ -144,10 +146,9 @@ class Saying(OpenFga):
 class Stores(OpenFga):
     """A client that moves to a store that is made while the recorder runs."""
 
-    def moved(self, *words):
-        self.start_service(MODEL)
+    def ask_both(self, *words, folder="log"):
         port = free_port()
-        recorder = self.start_recorder("--store", STORE, "--metrics", "127.0.0.1:%d" % port, *words)
+        recorder = self.start_recorder("--store", STORE, "--metrics", "127.0.0.1:%d" % port, *words, folder=folder)
         client = Client(self.port)
         self.assertEqual(self.check(client, "user:a", "viewer", "document:1")[1]["allowed"], False)
         for _ in range(3):
@@ -157,6 +158,10 @@ class Stores(OpenFga):
         self.wait_for(lambda: numbers_of(get(port, "/metrics")[1]).get("new_enemy_recorder_other_stores_total") == 3)
         self.end(recorder)
         self.assertIn("record: checks of other stores, which are not recorded: 3\n", self.get("said"))
+
+    def moved(self, *words):
+        self.start_service(MODEL)
+        self.ask_both(*words)
         status, said = self.run_import("events", *self.files())
         self.found()
         self.put("report.txt", "\n".join(self.said_of_audit) + "\n")
@@ -166,13 +171,38 @@ class Stores(OpenFga):
         status, said, report = self.moved()
         self.assertEqual(sum(row["lost"] for row in self.of_kind("gap") if row["reason"] == NOT_NAMED), 3)
         self.assertEqual((status, self.said_of_audit[-1]), (6, "verdict clean"))
+        self.assertEqual(self.of_kind("elsewhere"), [])
         for text in said, report:
             self.assertIn("lost in gaps 3: %s\n" % NOT_NAMED, text)
 
     def test_what_it_asks_there_where_that_is_no_concern(self):
         status, said, report = self.moved("--ignore-other-stores")
         self.assertEqual((status, self.of_kind("gap"), self.said_of_audit[-1]), (0, [], "verdict clean"), said)
-        self.assertNotIn("lost", report)
+        self.assertEqual(sum(row["count"] for row in self.of_kind("elsewhere")), 3)
+        for text in said, report, *(self.run_tool("report", "--form", form, "trace.jsonl", "report.txt").stdout for form in ("junit", "annotations")):
+            self.assertIn(ELSEWHERE % (1, 3), text)
+            self.assertNotIn("lost", text)
+        rows = self.run_tool("report", "--form", "jsonl", "trace.jsonl", "report.txt").stdout.splitlines()
+        self.assertEqual((json.loads(rows[0])["verdict"], json.loads(rows[0])["coverage"]["other_stores"]), ("clean", 3))
+        self.assertIn('"other_stores":3', self.run_tool("report", "--form", "sarif", "trace.jsonl", "report.txt").stdout)
+        page = self.run_tool("report", "--form", "html", "trace.jsonl", "report.txt").stdout
+        self.assertIn('class="verdict incomplete">clean', page)
+        self.assertIn(ELSEWHERE[1:] % (1, 3), page)
+
+    def test_of_several_recorders(self):
+        """Each counts them, and the joined log and its days have the sum."""
+        self.start_service(MODEL)
+        for folder in "left", "right":
+            self.ask_both("--ignore-other-stores", folder=folder)
+        self.run_tool("join", "--out", "all", "left", "right")
+        status, said = self.run_import("events", *self.files("all"))
+        self.assertEqual(status, 0, said)
+        self.assertIn(ELSEWHERE % (2, 6), said)
+        day = self.run_process("day", *WORDS, "--html", "days", "events", "left", "right")
+        self.assertEqual(day.returncode, 0, day.stdout + day.stderr)
+        self.assertIn(ELSEWHERE % (2, 6), day.stdout)
+        self.assertIn("<td>2, and 6 of other stores</td>", self.get("days/index.html"))
+        self.assertIn('class="verdict incomplete">clean', self.get("days/index.html"))
 
     def test_a_folder_that_has_the_log_of_another_store(self):
         """Nothing is recorded, and what passes is counted, however little the changes of the two stores differ."""

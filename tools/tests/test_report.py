@@ -5,7 +5,7 @@ import xml.etree.ElementTree
 from collections import Counter
 from random import Random
 
-from new_enemy_tools.looked import looked_in
+from new_enemy_tools.labels import labels_in
 from new_enemy_tools.trace_lines import _plainly, counted_in
 from tests.support import EXAMPLES, Case
 
@@ -213,7 +213,7 @@ class WhatNobodyLookedFor(Case):
             checks = [row for row in rows if row["kind"] == "check"]
             wanted = (len(checks), *(sum(row.get(key) is not None for row in checks) for key in ("version", "zookie", "named")))
             data = "\n".join(lines).encode() + random.choice([b"", b"\n"])
-            self.assertEqual(looked_in(data), wanted, data)
+            self.assertEqual(labels_in(data), wanted, data)
             entries = [row for row in rows if row["kind"] in ("check", "content")]
             found = counted_in(data)
             self.assertEqual((found.contents, found.again, sorted(found.part)), (

@@ -73,7 +73,7 @@ class OpenFga(Case):
 
     def test_a_model_that_is_refused(self):
         bad = {"schema_version": "9", "type_definitions": [{"type": "doc", "relations": {"viewer": {"no": {}}}}]}
-        self.assertEqual(self.refused(*self.words(change("user:a"), {"authorization_model": bad})), [
+        self.assertEqual(self.refused(*self.words(change("user:a"), {"authorization_model": bad}), "--refuse-unmapped"), [
             "log:2: schema version '9': only 1.1 and 1.2 are mapped", "log:2: rewrite without a form: doc#viewer has no"])
 
 
@@ -109,6 +109,15 @@ class SpiceDb(Case):
         lines = self.lines(1, 3, 3, 4, 2, 5, 6)
         self.assertEqual(self.imported(*self.words(*lines[:1], *failed, *lines[1:])).count("failed request"), 3)
         self.assertEqual(self.audited(), "entries 7\nfindings 0\nverdict clean\n")
+
+    def test_a_schema_in_a_file_that_is_given_too_late(self):
+        log = [{**watch(1, update("user:a", "owner")), "sequence": 2}, {**zed_check(1, reply="NO"), "sequence": 3}]
+        self.put("rules", [{**self.schema(0, FIRST.replace("relation viewer", "relation owner: user\n  relation viewer")), "sequence": 1}])
+        words = self.words(*log)
+        self.assertEqual(self.refused(*words, "rules"), [
+            "log:1: the WriteSchema that lets doc#owner take this stands behind it, or in a file that is given behind this one: give that file first"])
+        self.imported(*words[:-1], "rules", "log")
+        self.assertEqual(self.audited(), "entries 1\nfindings 0\nverdict clean\n")
 
     def test_postgres(self):
         self.imported(*self.words(*self.lines(revision(10, 10, own=10), revision(12, 12, own=12), revision(13, 13), revision(14, 14),

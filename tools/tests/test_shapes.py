@@ -147,7 +147,7 @@ class SameAnswers(BlockCase):
                 if random.random() < odd / 9:
                     log.append(write(at, rel(user="z")))
             self.put_log(random, [self.dressed(random, one, number % 2) if one.get("event") == "check" else one for one in log], share)
-            statuses.append(self.compare("events", "--from-empty", "log", *["--skip-unmapped"] * (number % 4 == 3)))
+            statuses.append(self.compare("events", "--from-empty", "log", *["--refuse-unmapped"] * (number % 4 == 3)))
         self.assertEqual(set(statuses), {0, 2, 6})
 
     def test_services(self):

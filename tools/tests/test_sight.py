@@ -6,7 +6,7 @@ from unittest import mock
 
 from new_enemy_tools.audited import read_audited
 from new_enemy_tools.meaning import Settled
-from new_enemy_tools.order import Window
+from new_enemy_tools.token_order import Window
 from new_enemy_tools.trace_lines import OtherForm
 from new_enemy_tools.reach import Reach
 from new_enemy_tools.sight import UNTOUCHED, Look

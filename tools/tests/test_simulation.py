@@ -1,26 +1,37 @@
 """The recorder's core in a simulated world, by seeds; and that the simulation finds what it is there to find."""
+import gzip
 import json
 import os
+import re
 import subprocess
 import sys
+from contextlib import ExitStack
 from random import Random
 from unittest import mock
 
+from new_enemy_tools.importing import openfga_answers
 from new_enemy_tools.importing.events import Relationship
+from new_enemy_tools.importing.times import nanoseconds
+from new_enemy_tools.recording import bodies, core, http_reading, openfga_feed
+from new_enemy_tools.recording.asking import FeedFault
 from new_enemy_tools.recording.core import Core, Now
-from new_enemy_tools.recording.messages import Beat
+from new_enemy_tools.recording.lines import gap_line
+from new_enemy_tools.recording.log_files import LogFiles
+from new_enemy_tools.recording.messages import Beat, Teller, packed
 from new_enemy_tools.recording.openfga import Changes, OpenFga
-from new_enemy_tools.recording.overlap import Change, Read
+from new_enemy_tools.recording.openfga_feed import OpenFgaFeed
+from new_enemy_tools.recording.overlap import Change, Overlap, Read
 from new_enemy_tools.recording.places import Places
 from new_enemy_tools.recording.reader import Exchange, Reader
+from new_enemy_tools.recording.relay import Relay
 from new_enemy_tools.recording.spicedb import Feed, SpiceDb
-from tests.simulated_http import run_wired
+from tests.simulated_recorder import run_whole
 from tests.simulated_spicedb import run as run_spicedb
 from tests.simulated_spicedb import run_either
 from tests.simulation import STEP, TUPLES, Shape, run
 from tests.support import TOOLS, Case
 
-SEEDS, WIRED = 1000, 300
+SEEDS, WHOLE = 1000, 600
 
 
 def shape_of(seed, **values):
@@ -61,22 +72,16 @@ class Holds(Case):
             self.assertEqual(run(seed)[1].faults(), [], "seed %d" % seed)
 
     def test_the_command(self):
-        for words in ([], ["--joined"], ["--days"], ["--http"], ["--spicedb"], ["--own"]):
+        for words in ([], ["--joined"], ["--days"], ["--whole"], ["--spicedb"], ["--own"]):
             run = subprocess.run([sys.executable, os.path.join(TOOLS, "dev", "simulate"), "--seeds", "20", *words], capture_output=True, text=True,
                                  timeout=300)
             self.assertEqual((run.returncode, run.stdout.splitlines()[-1]), (0, "20 passed, 0 failed"), run.stderr)
 
 
 class Missed(Case):
-    def test_a_change_that_a_reading_of_several_pages_missed(self):
-        """It shows that a tuple came which was there, since the page of its going was read too early. When that is shown, it is still not known
-        which of the two was last."""
-        self.assertEqual(run(1137002)[1].faults(), [])
-        with mock.patch.object(OpenFga, "_taint", lambda self, given, taint: None):
-            self.assertEqual(run(1137002)[1].faults(), ["a right reply is called wrong (check 22)"])
+    """A reading of several pages may miss that a tuple went before it came again. No seed shows what comes of it where that is not known."""
 
-    def test_in_a_log_of_the_changes_alone(self):
-        """There the tuple is told to be in doubt."""
+    def test_a_log_of_the_changes_alone_tells_that_a_tuple_is_in_doubt(self):
         core, lines = Core(OpenFga("S", 0, 10 ** 9, 0, True), 1), list[bytes]()
         core.is_ready, wall, given = True, 10 ** 18, Relationship(*TUPLES[0])
         core.service.takes.takes[given.type, given.relation] = {(given.user_type, None)}
@@ -112,7 +117,7 @@ class Finds(Case):
 
     def test_the_order_of_the_feed_taken_for_that_of_the_commits(self):
         with mock.patch.object(Places, "is_unsure", lambda *words: False):
-            self.assertIn("a right reply is called wrong", self.found(race=20, writes=0.6, requests=25, length=60, faults=0, ours=0))
+            self.assertIn("a right reply is called wrong", self.found(500, race=20, writes=0.6, requests=25, length=60, faults=0, ours=0))
 
     def test_a_check_that_does_not_wait_for_a_reading_behind_it(self):
         with mock.patch.object(OpenFga, "_put_waiting", _at_once):
@@ -132,7 +137,7 @@ class Finds(Case):
 
     def test_a_write_of_several_tuples_that_counts_by_halves(self):
         with mock.patch("new_enemy_tools.recording.openfga._writes", lambda changes, makers: [[place] for place in range(len(changes))]):
-            self.assertIn("a wrong reply is called right", self.found(300, faults=0.6, ours=1, writes=0.6, requests=25))
+            self.assertIn("a wrong reply is called right", self.found(500, faults=0.6, ours=1, writes=0.6, requests=25))
 
     def test_a_model_that_counts_from_the_beginning(self):
         kept = OpenFga._take_rules
@@ -149,22 +154,25 @@ class Finds(Case):
             self.assertIn("a right reply is called wrong", self.found(stale=10 * STEP, faults=0))
 
 
-class OverHttp(Case):
-    """The same where checks are bytes of HTTP, in pieces and one behind the other; and what a recorder that reads them wrongly does is found."""
+class OfTheWhole(Case):
+    """The whole recorder, which passes bytes of HTTP, is killed, ended and begun again; and each cure that is taken out is missed by some seed."""
 
-    def assert_found(self, wanted):
-        for seed in range(WIRED):
-            if any(wanted in fault for fault in run_wired(seed)[1].faults()):
-                return
+    def assert_found(self, wanted, *patches):
+        with ExitStack() as stack:
+            for one in patches:
+                stack.enter_context(one)
+            for seed in range(WHOLE):
+                if any(wanted in fault for fault in run_whole(seed)[1].faults()):
+                    return
         self.fail(wanted)
 
-    def test_no_right_reply_is_accused_and_no_wrong_one_passes(self):
+    def test_no_right_reply_is_accused_and_what_is_in_no_line_is_in_a_gap(self):
         recorded = lost = 0
-        for seed in range(WIRED):
-            _, verdict = run_wired(seed)
+        for seed in range(WHOLE):
+            _, verdict = run_whole(seed)
             self.assertEqual(verdict.faults(), [], "seed %d" % seed)
             recorded, lost = recorded + len(verdict.entries), lost + verdict.lost
-        self.assertGreater(recorded, 2 * lost)
+        self.assertGreater(2 * recorded, lost)
 
     def test_a_check_that_begins_when_its_head_comes(self):
         kept = Reader._request
@@ -173,28 +181,115 @@ class OverHttp(Case):
             length = kept(reader, head)
             reader._tell(reader.asked)
             return length
-        with mock.patch.object(Reader, "_request", early):
-            self.assert_found("a wrong reply is called right")
+        self.assert_found("a wrong reply is called right", mock.patch.object(Reader, "_request", early))
 
     def test_a_check_that_begins_before_its_turn(self):
-        def at_once(reader):
-            found, reader.free = reader.free, bytearray()
-            while reader.coming:
-                found += reader._part_of(reader.coming[0])
-                if not reader.coming[0].is_whole or reader.coming[0].held:
-                    break
-                reader.coming.popleft()
-            return bytes(found)
-        with mock.patch.object(Reader, "passing", at_once):
-            self.assert_found("a wrong reply is called right")
+        self.assert_found("a wrong reply is called right", mock.patch.object(Reader, "passing", _passing_at_once))
 
     def test_a_path_that_is_read_as_it_stands(self):
-        with mock.patch("new_enemy_tools.recording.reader.path_of", lambda target: target):
-            self.assert_found("checks were answered, and")
+        self.assert_found("a check is neither in the log nor in a gap", mock.patch("new_enemy_tools.recording.reader.path_of", lambda target: target))
 
     def test_a_label_that_is_read_as_latin_1(self):
-        with mock.patch.object(Exchange, "_label", lambda exchange, head, name: head.values[name].decode("latin-1").strip()):
-            self.assert_found("a check has another label than the application said")
+        latin = mock.patch.object(Exchange, "_label", lambda exchange, head, name: head.values[name].decode("latin-1").strip())
+        self.assert_found("a check has another label than the application said", latin)
+
+    def test_a_label_that_stands_twice(self):
+        last = mock.patch.object(Exchange, "_label", lambda exchange, head, name: head.values[name].decode("utf-8"))
+        self.assert_found("a line is none of the check", last)
+
+    def test_headers_of_which_one_counts_alone(self):
+        self.assert_found("a line is none of the check", mock.patch.object(core, "refuse_headers", lambda *words: None))
+
+    def test_a_stray_end_of_a_line_that_is_none(self):
+        """The one holds what the other would let pass."""
+        never = re.compile(rb"(?!)")
+        self.assert_found("a line is none of the check", mock.patch.object(http_reading, "STRAY", never), mock.patch.object(
+            http_reading, "CONTROL", never), mock.patch.object(Reader, "passing", _passing_at_once))
+
+    def test_readings_that_rest_for_long(self):
+        rests = mock.patch.object(OpenFgaFeed, "run", _run_with_rests)
+        self.assert_found("the changes are read too seldom", rests)
+
+    def test_a_blank_of_unicode_that_ends_a_name(self):
+        """Where what can't be read ends the feed too."""
+        kept = openfga_feed._change
+
+        def change(given):
+            found = kept(given)
+            if found.given is None:
+                raise FeedFault(found.reason)
+            return found
+        self.assert_found("the feed: tuple that can't be read", mock.patch.object(openfga_feed, "_change", change), mock.patch.object(
+            openfga_answers, "OBJECT", re.compile(r"([^:#\s]+):([^#\s]+)")))
+
+    def test_clients_for_which_there_are_no_files(self):
+        kept = Relay.client
+
+        def client(relay):
+            relay.most = 1 << 30
+            return kept(relay)
+        self.assert_found("a client was refused, and no gap says so", mock.patch.object(Relay, "client", client))
+
+    def test_messages_for_which_there_is_always_room(self):
+        def put(teller, message):
+            for one in (message,) if teller.lost is None else (teller.lost, message):
+                teller.waiting.append(packed(one))
+                teller.size += len(teller.waiting[-1])
+            teller.lost = None
+            return teller.end is not None
+        self.assert_found("more waits for the keeper than there is room for", mock.patch.object(Teller, "_put", put))
+
+    def test_an_answer_that_is_unpacked_whole(self):
+        self.assert_found("a line is none of the check", mock.patch.object(bodies, "_unpacked", gzip.decompress))
+
+    def test_a_kill_that_begins_with_the_last_line(self):
+        def gap(files, last, now):
+            return gap_line(nanoseconds(last), now, "the recorder was killed")
+        self.assert_found("a check is neither in the log nor in a gap", mock.patch.object(LogFiles, "_gap_of_killed", gap))
+
+    def test_a_line_that_was_cut_and_stays(self):
+        """The file can't be read, or has other lines than its end tells."""
+        def close(path, size, end):
+            with open(path, "ab") as file:
+                file.write(end)
+        with mock.patch.object(LogFiles, "_close_left", staticmethod(close)), self.assertRaises((ValueError, AssertionError)):
+            for seed in range(WHOLE):
+                self.assertEqual(run_whole(seed)[1].faults(), [])
+
+    def test_a_recorder_that_goes_on_with_all_that_comes_again(self):
+        kept = Overlap.go_on
+        self.assert_found("a change stands not in the log, or twice", mock.patch.object(
+            Overlap, "go_on", lambda overlap, listed, known, apart, end, received: kept(overlap, listed, [], (), end, received)))
+
+    def test_a_recorder_that_goes_on_behind_all_changes_of_its_base_state(self):
+        kept = OpenFgaFeed._take_all
+
+        def take(feed, stored, back):
+            _, _, end = kept(feed, stored, back)
+            return end, [], end
+        self.assert_found("a change stands not in the log, or twice", mock.patch.object(OpenFgaFeed, "_take_all", take))
+
+
+def _passing_at_once(reader):
+    """What goes on to the service, whether it is its turn or not."""
+    found, reader.free = reader.free, bytearray()
+    while reader.coming:
+        found += reader._part_of(reader.coming[0])
+        if not reader.coming[0].is_whole or reader.coming[0].held:
+            break
+        reader.coming.popleft()
+    return bytes(found)
+
+
+def _run_with_rests(feed, left, put):
+    """A feed that rests for long when nothing comes."""
+    if feed.overlap is None:
+        feed._begin(left, put)
+    while True:
+        read = feed._read(openfga_feed.time.monotonic_ns())
+        if read is not None:
+            put(read)
+        openfga_feed.time.sleep(feed.settings.poll if read is None or read.read.changes else 1.0)
 
 
 class OfSpiceDb(Case):

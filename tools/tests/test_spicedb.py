@@ -47,7 +47,7 @@ class Refusals(Case):
     def refusals(self, log=(), body=VIEW, schema=None):
         self.put("schema.zed", schema or SCHEMA % body)
         self.put("log", list(log))
-        return self.refused("spicedb", "--schema", "schema.zed", "--from-empty", "log")
+        return self.refused("spicedb", "--schema", "schema.zed", "--from-empty", "--refuse-unmapped", "log")
 
     def name(self, name, content):
         self.put(name, content)
@@ -73,23 +73,19 @@ class Refusals(Case):
             self.assertIn("schema.zed:%d: %s" % (line, text), refusals)
 
     def test_schema_by_line(self):
-        schema = ("use expiration\ncaveat tuesday(day string) {\n  day == \"tuesday}\"\n}\ndefinition user {}\ndefinition doc {\n"
+        schema = ("use hope use expiration\ncaveat tuesday(day string) {\n  day == \"tuesday}\"\n}\ndefinition user {}\ndefinition doc {\n"
                   "  relation viewer: user:* | user with tuesday |\n    user with expiration | user with tuesday and expiration\n"
                   "  relation owner user\n  relation owner: cat | user#x\n  relation owner: user\n  nonsense\n}\n"
                   "definition doc {}\n/* of\ntwo lines */ import other\nhello\npartial p { relation x: user }\n")
         self.assertEqual(self.refusals([], schema=schema), [
-            "schema.zed:1: use expiration",
-            "schema.zed:2: caveat: tuesday",
-            "schema.zed:7: caveat: user of doc#viewer",
-            "schema.zed:8: expiration: user of doc#viewer",
-            "schema.zed:8: caveat: user of doc#viewer",
+            "schema.zed:1: use hope: only expiration, self, typechecking are known",
             "schema.zed:9: ':' should stand here, and not 'user'",
             "schema.zed:11: doc#owner stands twice",
             "schema.zed:12: a relation or a permission should stand here, and not 'nonsense'",
             "schema.zed:14: definition doc stands twice",
-            "schema.zed:16: import other",
+            "schema.zed:16: `import`: give the schema as one text, as `zed schema compile` makes it",
             "schema.zed:17: a definition should stand here, and not 'hello'",
-            "schema.zed:18: partial: p"])
+            "schema.zed:18: `partial`: give the schema as one text, as `zed schema compile` makes it"])
         self.assertEqual(self.refusals([], schema="definition user {};\ndefinition doc {\n  relation owner: user#\n}\n"),
                          ["schema.zed:4: a relation should stand here, and not '}'"])
         self.assertEqual(self.refusals([], schema="definition doc {\n  relation owner: user#{\ndefinition user {}"), [
@@ -147,7 +143,7 @@ class Refusals(Case):
                  "doc:1#viewer@user:b[expiration:2030-01-01T00:00:00Z]\ndoc:1#viewer\ndoc:1#view@user:b\ndoc:1#viewer@user:a\n")
         self.put("log", [check(at=4), watch(5, update("user:c"))])
         words = ("spicedb", "--schema", "schema.zed", "--base", "base.txt", "--base-at", token_text(5), "log")
-        self.assertEqual(self.refused(*words), [
+        self.assertEqual(self.refused(*words, "--refuse-unmapped"), [
             "base.txt:4: relationship that the schema does not take: doc:1#viewer@user:*", "base.txt:5: caveat: doc:1#viewer@user:b",
             "base.txt:6: expiration: doc:1#viewer@user:b",
             "base.txt:7: no relationship `type:id#relation@type:id`: 'doc:1#viewer'",

@@ -69,7 +69,7 @@ class StrangeInput(Case):
         for number in range(ROUNDS):
             self.put("model", json.dumps(mutated(random, model) if number % 4 else model))
             self.put("log", mutated_log(random, log))
-            self.taken("openfga", "--model", "model", "--from-empty", *(["--skip-unmapped"] * (number % 3 == 0)), "log")
+            self.taken("openfga", "--model", "model", "--from-empty", *(["--refuse-unmapped"] * (number % 3 == 0)), "log")
 
     def test_spicedb(self):
         random = Random(2)
@@ -84,7 +84,7 @@ class StrangeInput(Case):
             self.put("base", base[:at] + random.choice("#@:[]*\t x") + base[at + 1:] if number % 5 == 0 else base)
             self.put("log", mutated_log(random, log))
             self.taken("spicedb", "--schema", "schema", "--base", "base", "--base-at", "1714986000000000000",
-                       *(["--skip-unmapped"] * (number % 3 == 0)), "log")
+                       *(["--refuse-unmapped"] * (number % 3 == 0)), "log")
 
     def test_calls_of_openfga(self):
         random = Random(4)
@@ -113,7 +113,7 @@ class StrangeInput(Case):
             self.put("log", mutated_log(random, mutated_log(random, log)))
             rules = ["--model", "store.yaml", "--base", "store.yaml", "--base-at", "0"] if number % 3 == 0 else [
                 "--model", "model.fga", "--from-empty"]
-            self.taken("openfga", *rules, *(["--skip-unmapped"] * (number % 4 == 0)), "log")
+            self.taken("openfga", *rules, *(["--refuse-unmapped"] * (number % 4 == 0)), "log")
 
     def test_calls_of_spicedb(self):
         random = Random(5)
@@ -136,7 +136,7 @@ class StrangeInput(Case):
             self.put("valid.yaml", text[:at] + random.choice("|>-:\t'\"#[& \n+*") + text[at:] if number % 2 else text)
             self.put("log", mutated_log(random, mutated_log(random, log)))
             self.taken("spicedb", "--schema", "valid.yaml", "--base", "valid.yaml", "--base-at", "Gg4KDENPUUZFQUFvQVE9PQ==",
-                       *(["--skip-unmapped"] * (number % 3 == 0)), "log")
+                       *(["--refuse-unmapped"] * (number % 3 == 0)), "log")
 
     def test_events(self):
         random = Random(3)
@@ -152,4 +152,4 @@ class StrangeInput(Case):
         for number in range(ROUNDS):
             self.put("log", mutated_log(random, mutated_log(random, events)))
             self.taken("events", "--from-empty", *(["--skew", "5"] * (number % 3 == 0)),
-                       *(["--skip-unmapped"] * (number % 4 == 0)), "log")
+                       *(["--refuse-unmapped"] * (number % 4 == 0)), "log")

@@ -13,7 +13,7 @@ from new_enemy_tools.trace import Refusal, Trace
 from new_enemy_tools.trace_lines import (OBJECTS, RECORDS, SNAPSHOTS, OtherForm, check_lines, check_start, commit_at, commit_line, content_at, counted_in,
                                          entry_line, ids_in, is_imported, look_text, may_issue, quick_commit, quick_entry, quick_fields, quick_touch,
                                          refuse_other_keys, source_keys, strata_in, times_of, within_quotes)
-from new_enemy_tools.windowing.reading import with_strata
+from new_enemy_tools.windowing.window_bytes import with_strata
 from new_enemy_tools.windowing.scanning import scan
 from new_enemy_tools.windowing.state import EMPTY, Row, State
 from tests.support import TOOLS, Case

@@ -154,7 +154,7 @@ class SpiceDb(Case):
 
     def test_a_tuple_of_a_call_that_has_no_form_is_left_out(self):
         bad = written(1, update("user:a", optionalCaveat={"caveatName": "c"}))
-        self.assertEqual(self.refused(*self.words(bad)), ["log:1: caveat: doc:1#viewer@user:a"])
+        self.assertIn("left out 1: caveat, first at log:1: doc:1#viewer@user:a\n", self.imported(*self.words(bad)))
 
     def event(self, call, **data):
         return {"specversion": "1.0", "id": "1", "source": "/ps/one", "type": "/authzed.api.v1.PermissionsService/" + call,
@@ -410,6 +410,19 @@ class OpenFga(Case):
         none = {"request": {"type": "doc"}, "response": {"changes": []}}
         for request in {"type": "", "page_size": 50}, {}:
             self.assertEqual(self.report({"request": request, "response": page}, none, self.check(at=1)), "entries 1\nfindings 0\nverdict clean\n")
+
+    def test_tokens_tell_which_changes_were_read_twice(self):
+        """Also where one tuple is written and deleted at one timestamp, as in a database that keeps seconds."""
+        def page(behind, ends, *changes):
+            return {"request": {"store_id": "s", "continuation_token": behind}, "response": {"changes": list(changes), "continuation_token": ends}}
+        first, second, third = change("user:a", at=AT % 1), change("user:a", at=AT % 1, operation="DELETE"), change("user:b", at=AT % 1)
+        checks = self.check(at=1), self.check(at=2, allowed=False), self.check("user:b", at=3)
+        for pages, count in (([page("", "t2", first, second), page("", "t2", first, second), page("t2", "t3", third)], 2),
+                             ([page("", "t2", first, second), page("", "t3", first, second, third), page("t2", "t3", third)], 3),
+                             ([page("", "t1", first), page("t1", "t2", second), page("t1", "t3", second, third)], 1)):
+            self.assertEqual(self.report(*pages, *checks), "entries 3\nfindings 0\nverdict clean\n")
+            self.assertIn("passed over %d: change that was read twice\n" % count, self.said)
+        self.assertEqual(self.report(*pages, self.check(at=2), self.check("user:b", at=3, allowed=False)).splitlines()[-2], "findings 2")
 
     def test_a_page_of_changes_that_was_read_twice_is_seen(self):
         page = [change("user:a", at=AT % 1), change("user:b", at=AT % 1), change("user:a", at=AT % 2, operation="DELETE"),

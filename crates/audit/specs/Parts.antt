@@ -4,6 +4,7 @@ use Rattle.std.specs.Prelude.{◌≡◌, ℕ, ◌+◌, true, false, List, [], �
 use Rattle.std.specs.declared.vec.Vec.{Vec}
 use Rattle.std.specs.declared.alloc.Global.{Global}
 use Rattle.trace_lines.specs.Values.{TraceValue}
+use Rattle.trace_lines.specs.Results.{FailsBy}
 use Rattle.trace_lines.specs.Traces.{trace_of}
 use Rattle.trace_lines.specs.declared.cause.Cause.TheVariants as causes
 use Rattle.trace_lines.specs.declared.cause.TraceFault.{TraceFault}
@@ -13,7 +14,7 @@ use Rattle.evidence_check.specs.declared.cause.EvidenceCause.TheVariants as evid
 use Rattle.evidence_check.specs.declared.cause.EvidenceFault.{EvidenceFault}
 use Rattle.findings.specs.Findings.{findings_of}
 use Rattle.findings.specs.declared.finding.Finding.{Finding}
-use Rattle.audit.specs.Audit.{RefusesTrace, RefusesEvidenceFor, BlamesNoDevice, IsNotWrite, IsWrite, report_on, verdict_of}
+use Rattle.audit.specs.Audit.{RefusesEvidenceFor, Says, BlamesNoDevice, IsNotWrite, IsWrite, report_on, verdict_of}
 use Rattle.audit.specs.Kinds.{IsOneOf}
 use Rattle.audit.specs.Kinds as kind
 use Rattle.audit.specs.Devices.{Reading, Writing, OfBytes, OfWhole, OfInput, GivesFew, GivesNext}
@@ -23,19 +24,23 @@ use Rattle.audit.specs.declared.plain.Verdict.{Verdict}
 use Rattle.audit.specs.declared.plain.AuditFault.{AuditFault}
 use Rattle.audit.specs.declared.plain.AuditFault.TheVariants as faults
 
--- a trace was read to the reader's end, or its reading stopped at a fault
-pub record TraceRead (trace : Reading) (result : Result TraceValue AuditFault) : Type 0 where
-  pub given : IfOk result (λ t. OfWhole trace (λ a. trace_of true a ≡ Ok t))
-  pub refused : (f : TraceFault) → result ≡ Err (faults.Trace f) → OfInput trace (λ a. RefusesTrace a f)
+-- what an input says was read to the reader's end, or its reading stopped at a fault
+pub record LogRead (says : Says) (trace : Reading) (result : Result TraceValue AuditFault) : Type 0 where
+  pub given : IfOk result (λ t. OfWhole trace (λ a. says true a ≡ Ok t))
+  pub refused : (f : TraceFault) → result ≡ Err (faults.Trace f) → OfInput trace (λ a. FailsBy f.cause f (says true a))
   -- where the reader failed (the flag false), the fault is of the line that its bytes had come to
   pub cut : (f : TraceFault) → result ≡ Err (faults.Trace f) → f.cause ≡ causes.Read
-      → OfBytes trace (λ a. trace_of false a ≡ Err f)
+      → OfBytes trace (λ a. says false a ≡ Err f)
   pub most : GivesFew trace
   pub known : GivesNext trace
   pub failed : (f : TraceFault) → result ≡ Err (faults.Trace f) → f.cause ≡ causes.Read → ReaderFailed trace
   pub kept : OnOk result (ReaderNeverFailed trace)
   pub unfailed : IfErr result (λ e. BlamesNoDevice e → ReaderNeverFailed trace)
   pub kinds : IfErr result (IsOneOf (kind.trace ∷ kind.memory ∷ []))
+
+-- so a trace was read
+abbrev pub TraceRead : Reading → Result TraceValue AuditFault → Type 0
+TraceRead = LogRead trace_of
 
 -- So it is with the evidence for a trace. Says tells how the answer shows what was given.
 pub record EvidenceRead {V : Type 0} (Says : List (Option (List StepValue)) → V → Type 0) (t : TraceValue)

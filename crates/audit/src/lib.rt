@@ -22,8 +22,7 @@
 //! alone does. Which faults a call answers is `kinds` (`specs/Kinds.antt`): a clause, or a field of `AuditedJoined`
 //! and of `Told`. [`make_records`] writes evidence for a trace, and [`history`] a tuple's touches in it, the newest
 //! first. What is found, and its text, are of the crate `findings`. For a caller that takes a
-//! trace as it comes (the crate `follow`) there are [`take_line`], a judge that makes its evidence ([`MakingJudge`]), and
-//! [`tell`].
+//! trace as it comes (the crate `follow`) there are a judge that makes its evidence ([`MakingJudge`]), and [`tell`].
 //!
 //! Contracts see a reader and a writer as `specs/Devices.antt` says: the bytes that they gave and took; how often a
 //! reader failed, or was at its end; how often a writer failed, took none of some bytes, or was asked to flush; and,
@@ -64,7 +63,6 @@ pub use judging::{MakingJudge, PausedJudge};
 pub use made::{make_records, make_records_listing};
 pub use made_audit::audit_made;
 pub use plain::{AuditFault, Verdict, audit_plain, audit_values};
-pub use reading::take_line;
 pub use shared::{LARGEST_SLICE, audit};
 pub use telling::tell;
 pub use touches::history;

@@ -1,20 +1,16 @@
 //! What an audit reads.
 
-ghost use Rattle.std.specs.Prelude.{◌+◌, ◌<◌, ◌≤◌};
+ghost use Rattle.std.specs.Prelude.{◌<◌, ◌≤◌};
 ghost use Rattle.evidence_check.specs.Judging.{AreJudged};
-ghost use Rattle.json_lines.specs.declared.reading.TheConstants.{MAX_INPUT};
-ghost use Rattle.trace_lines.specs.TraceReads.{TakesLine};
-ghost use Rattle.trace_lines.specs.Values.{next_line};
 ghost use Rattle.audit.specs.Devices.{reads};
 ghost use Rattle.audit.specs.Parts.{TraceRead, EvidenceRead};
 
 use crate::plain::AuditFault;
 use devices::Source;
 use evidence_check::{EvidenceCause, EvidenceFault, Judged, judge_evidence, judge_evidence_by};
-use json_lines::LineReader;
 use std::alloc::Global;
 use std::thread::Threads;
-use trace_lines::{Cause, Trace, TraceBuilder, TraceFault, read_trace, read_trace_by, take_next};
+use trace_lines::{Cause, Trace, TraceFault, read_trace, read_trace_by};
 
 impl From<TraceFault> for AuditFault {
     ghost use Rattle.audit.specs.Faults.{TellsTraceFault};
@@ -48,25 +44,6 @@ pub(crate) fn trace_from<R: Source>(alloc: Global, reader: &mut R) -> Result<Tra
     ensures { TraceRead (reads R.given R.ends R.failures R.remaining reader.old reader.new) result }
 {
     Ok(read_trace(alloc, reader)?)
-}
-
-/// Takes the next line of a trace, and says whether a further one follows, as
-/// [`trace_lines::take_next`](trace_lines::take_next) does.
-pub fn take_line<R: Source>(
-    lines: &mut LineReader,
-    reader: &mut R,
-    builder: &mut TraceBuilder,
-) -> Result<bool, AuditFault>
-    requires next { next_line builder.old ≤ lines.old.number }
-    requires room { lines.old.number + lines.old.room ≤ MAX_INPUT + 1 }
-    ensures { TakesLine R.given R.ends R.failures R.remaining
-        (λ first. TraceRead (reads R.given R.ends R.failures R.remaining first reader.new))
-        reader.old reader.new builder.old builder.new lines.old lines.new result }
-{
-    match take_next(lines, reader, builder) {
-        Ok(more) => Ok(more),
-        Err(fault) => Err(AuditFault::from(fault)),
-    }
 }
 
 /// The trace of a reader, by so many workers, of which several read a block of lines each.

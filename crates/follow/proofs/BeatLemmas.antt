@@ -1,5 +1,5 @@
 -- Heartbeats of a log that grows.
-use Rattle.std.proofs.Common.{◌≡◌, ◌⊎◌, inl, inr, ℕ, zero, suc, ◌+◌, ◌<◌, ◌≤◌, ◌||◌, Bool, true, false, leb, List, [], ◌∷◌, ◌++◌, length, map, get_or, Option, Some, None, refl, sym, ◌∙◌, ap, subst, arith, length-append}
+use Rattle.std.proofs.Common.{◌≡◌, ◌⊎◌, inl, inr, ℕ, suc, ◌+◌, ◌<◌, ◌≤◌, ◌||◌, Bool, true, false, leb, List, [], ◌∷◌, ◌++◌, length, map, get_or, Option, Some, None, refl, sym, ◌∙◌, ap, subst, arith, length-append}
 use Rattle.std.specs.Prelude.{All, IfSome, slice_get}
 use Rattle.std.specs.List.{list_any}
 use Rattle.std.proofs.lemmas.Bool.{leb-true}
@@ -11,21 +11,17 @@ use Rattle.line_blocks.proofs.WholeLines.{parts_at}
 use Rattle.trace_lines.specs.Placed.{AreInPlace}
 use Rattle.trace_lines.specs.Values.{EntryValue, TraceValue}
 use Rattle.findings.specs.declared.finding.Finding.{Finding}
-use Rattle.follow_laws.specs.Begun.{Begins}
+use Rattle.windows.specs.Growth.{GoesOn}
 use Rattle.follow_laws.proofs.ThroughLemmas.{first_entry}
 use Rattle.monitor.specs.Standing.{IsAtEnd, IsPast, IsReached}
 use Rattle.monitor.specs.declared.monitor.Monitor.{Monitor}
 use Rattle.monitor.proofs.GrowthLemmas.{reached_still}
-use Rattle.follow.specs.Heartbeats.{AreTrue, IsThrough}
+use Rattle.follow.specs.Heartbeats.{AreSilent, AreThrough, AreTrue, EachBeat, IsThrough}
 use Rattle.follow.specs.Pieces.{Piece, told_in}
 use Rattle.follow.specs.declared.heartbeat.Heartbeat.{Heartbeat}
 use Rattle.follow.proofs.GrownLemmas.{settled_still}
 
 -- ---- each heartbeat among some pieces
-
-abbrev pub EachBeat : (List Piece → List Piece → Piece → Heartbeat → Type 0) → List Piece → Type 0
-EachBeat P pieces = (earlier later : List Piece) (p : Piece) (h : Heartbeat) → pieces ≡ earlier ++ p ∷ later
-    → p.heartbeat ≡ Some h → P earlier later p h
 
 pub each_of_none : (P : List Piece → List Piece → Piece → Heartbeat → Type 0) → EachBeat P []
 each_of_none P [] later p h is here = absurd cc
@@ -66,18 +62,6 @@ each_more P pieces q before last earlier later p h is here = elim (split_last pi
       (subst (λ (x : Piece). P pieces [] x h) (sym two) (last h there)))
 ]
 
--- what was told behind each is on none of the entries up to its line, and so many findings were told before
-abbrev pub AreSilent : List Piece → Type 0
-AreSilent = EachBeat (λ earlier later p h. (h.findings ≡ length (told_in earlier ++ p.told))
-    × All (λ f. h.line < f.line) (told_in later))
-
-abbrev pub AreThrough : TraceValue → List Piece → Type 0
-AreThrough t = EachBeat (λ earlier later p h. IsThrough t h.line h.entries)
-
--- a monitor is past the lines that they name
-abbrev pub ArePast : TraceValue → Monitor → List Piece → Type 0
-ArePast t m = EachBeat (λ earlier later p h. IsPast t m h.line)
-
 pub are_true : (t : TraceValue) (pieces : List Piece) (rest : List Finding) → AreThrough t pieces → AreSilent pieces
     → EachBeat (λ earlier later p h. All (λ f. h.line < f.line) rest) pieces → AreTrue t pieces rest
 are_true t pieces rest through silent behind earlier later p h is here = record {
@@ -117,25 +101,25 @@ past_now t m n k ended through = record {
       subst (λ (c : ℕ). IsReached t c e.snapshot) (sym ended.commits) (any_reached e.snapshot t.commits (through.settled i e at le));
 }
 
-module _ {k : ℕ} (t u : TraceValue) (b : Begins k t u) (n : ℕ) (within : n ≤ k) where
+module _ {k : ℕ} (t u : TraceValue) (goes : GoesOn k t u) (n : ℕ) (within : n ≤ k) where
   entry_before : (i : ℕ) (e : EntryValue) → slice_get u.entries i ≡ Some e → e.line ≤ n → slice_get t.entries i ≡ Some e
   entry_before i e at le =
-      first_entry k t.entries b.goes.entries (recursion_from_All (λ (x : EntryValue). k < x.line) b.goes.entries b.goes.entries_behind)
-      i e (sym (ap (λ (es : List EntryValue). slice_get es i) b.goes.recorded) ∙ at) (omega (arith, le, within))
+      first_entry k t.entries goes.entries (recursion_from_All (λ (x : EntryValue). k < x.line) goes.entries goes.entries_behind)
+      i e (sym (ap (λ (es : List EntryValue). slice_get es i) goes.recorded) ∙ at) (omega (arith, le, within))
 
   pub through_longer : (entries : ℕ) → IsThrough t n entries → IsThrough u n entries
   through_longer entries through = record {
-    settled = λ i e at le. settled_still t u b e (through.settled i e (entry_before i e at le) le);
+    settled = λ i e at le. settled_still t u goes e (through.settled i e (entry_before i e at le) le);
     counted = λ i e at le. through.counted i e (entry_before i e at le) le;
-    there = let le = through.there in let more = length-append t.entries b.goes.entries in
-        let same = ap (λ (es : List EntryValue). length es) b.goes.recorded in omega (arith, le, more, same);
+    there = let le = through.there in let more = length-append t.entries goes.entries in
+        let same = ap (λ (es : List EntryValue). length es) goes.recorded in omega (arith, le, more, same);
   }
 
   pub past_longer : (m : Monitor) → AreInPlace t → AreInPlace u → m.commits ≤ length t.commits → IsPast t m n → IsPast u m n
   past_longer m here there few past = record {
     taken = λ i e at le. past.taken i e (entry_before i e at le) le;
     reached = λ i e at le.
-        reached_still t u b.goes here there m.commits e.snapshot few (past.reached i e (entry_before i e at le) le);
+        reached_still t u goes here there m.commits e.snapshot few (past.reached i e (entry_before i e at le) le);
   }
 
 -- a line more

@@ -1,17 +1,28 @@
 -- What a follower takes and tells.
-use Rattle.std.proofs.Common.{◌≡◌, ◌||◌, false, refl, ℕ, zero, suc, ◌+◌, ◌-◌, ◌<◌, ◌≤◌, inl, inr, Bool, true, List, [], ◌∷◌, ◌++◌, length, map, take, drop, Option, Some, sym, ◌∙◌, ap, subst, arith, append_assoc, length-append}
+use Rattle.std.proofs.Common.{◌≡◌, ◌||◌, false, refl, ℕ, zero, suc, ◌+◌, ◌-◌, ◌<◌, ◌≤◌, inl, inr, Bool, true, List, [], ◌∷◌, ◌++◌, length, map, take, drop, Some, sym, ◌∙◌, ap, subst, arith, append_assoc, length-append}
 use Rattle.std.specs.Prelude.{slice_get, nat_le}
 use Rattle.std.specs.List.{list_any}
 use Rattle.std.specs.List.Sorted.{IsStrictlyIncreasing}
 use Rattle.std.proofs.Math.Seq.{drop-append_seam, take-length}
 use Rattle.std.proofs.lemmas.Bool.{cases_lt}
+use Rattle.std.proofs.lemmas.List.Elements.{filter-append}
 use Rattle.std.proofs.lemmas.Option.{slice_get_within}
 use Rattle.version_chains.specs.Commits.{Commit}
-use Rattle.trace_lines.specs.Values.{EntryValue, TraceValue, entry_lines}
+use Rattle.trace_lines.specs.Values.{EntryValue, TraceValue, entry_lines, next_line}
 use Rattle.findings.specs.declared.finding.Finding.{Finding}
 use Rattle.windows.specs.Growth.{IsSettled}
 use Rattle.token_order.proofs.Lines.{line_before}
+use Rattle.trace_lines.specs.Placed.{AreInPlace}
+use Rattle.follow_laws.specs.Begun.{IsOfBytes}
+use Rattle.monitor.specs.SoFar.{IsTold, TellsMore}
+use Rattle.monitor.specs.Standing.{IsAtEnd, Stands}
+use Rattle.monitor.specs.declared.monitor.Monitor.{Monitor}
+use Rattle.monitor.proofs.RunLemmas.{none_between, to_last}
+use Rattle.audit.specs.Made.{IsMade}
 use Rattle.follow.specs.Heartbeats.{AreSettledTo, IsThrough}
+use Rattle.follow.specs.SoFar.{IsFollowed, TellsFromSame}
+use Rattle.follow.specs.Told.{asked, is_asked}
+use Rattle.follow.specs.declared.follower.Follower.{Follower}
 
 -- an entry more is settled
 pub settled_next : (t : TraceValue) (n : ℕ) (x : EntryValue) → AreSettledTo t n → slice_get t.entries n ≡ Some x → IsSettled t x
@@ -56,6 +67,47 @@ through_before t rising n x before there line below = record {
       | inl lt ↦ lt
       | inr ge ↦ let up = not_earlier i e at ge in absurd (omega (arith, le, below, up))
     ]
+
+-- ---- what a follower takes
+
+-- behind all lines of a log nothing is told
+pub told_behind : (t : TraceValue) → AreInPlace t → IsOfBytes t → (m : Monitor) → IsAtEnd t m → (first : ℕ)
+    → next_line t ≤ first → IsTold IsMade first t m [] []
+told_behind t placed good m ended first low =
+    let up = to_last t placed good.rising.entries m good ended in
+    record {
+      line = first;
+      from = omega arith;
+      given = [];
+      up_to = record {
+        entries_before = λ i e at taken. let lt = up.entries_before i e at taken in omega (arith, lt, low);
+        entries_from = λ i e at left.
+            let lt = slice_get_within t.entries i e at in let all = ended.entries in absurd (omega (arith, lt, left, all));
+        commits_before = λ c inside taken. let lt = up.commits_before c inside taken in omega (arith, lt, low);
+        commits_from = λ c inside left. let all = ended.commits in absurd (omega (arith, inside, left, all));
+      };
+      allowed = λ i e at l is from lt. absurd (omega (arith, from, lt));
+      told = sym (none_between t [] first first (omega arith));
+    }
+
+-- further lines were taken, and of what was found there what is asked was told
+pub further_followed : (t : TraceValue) (f g : Follower) → IsFollowed t f → (found : List Finding)
+    → TellsMore IsMade t f.monitor g.monitor [] found → Stands t g.monitor → TellsFromSame f g → g.settled ≡ f.settled
+    → g.told.items ≡ f.told.items ++ asked f.base t found → IsFollowed t g
+further_followed t f g followed found more stands same settled told = record {
+  stands = stands;
+  all = followed.all ++ more.more;
+  told = subst (λ (n : ℕ). IsTold IsMade n t g.monitor [] (followed.all ++ more.more)) (sym same.0)
+      (more.told f.first [] followed.all followed.told);
+  asked_alone =
+      told
+      ∙ ap (λ (fs : List Finding). fs ++ asked f.base t found) followed.asked_alone
+      ∙ ap (λ (fs : List Finding). asked f.base t followed.all ++ asked f.base t fs) more.behind
+      ∙ sym (filter-append (λ (x : Finding). is_asked f.base t x.line) followed.all more.more)
+      ∙ ap (λ (b : ℕ). asked b t (followed.all ++ more.more)) (sym same.1);
+  within = let le = followed.within in omega (arith, le, settled);
+  settled = λ i e at lt. followed.settled i e at (omega (arith, lt, settled));
+}
 
 -- parts of a text, one behind the other
 pub joined : (o a b c d e v w x y z : List ℕ) → v ≡ o ++ a → w ≡ v ++ b → x ≡ w ++ c → y ≡ x ++ d → z ≡ y ++ e

@@ -1,6 +1,10 @@
+pub mod AskLemmas
 pub mod BeatLemmas
 pub mod FollowerLemmas
 pub mod GrownLemmas
+pub mod HandLemmas
 pub mod IndexLemmas
 pub mod MadeLemmas
+pub mod ReadLemmas
 pub mod RunLemmas
+pub mod WholeLemmas

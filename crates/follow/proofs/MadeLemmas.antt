@@ -1,7 +1,7 @@
 -- What is made for a settled entry of a log so far is made for it in each longer log.
 use Rattle.std.proofs.Common.{◌≡◌, ℕ, inl, inr, List, [], ◌∷◌, Option, None, Some, sym, ◌∙◌, subst}
 use Rattle.std.specs.Prelude.{slice_get}
-use Rattle.tuple_text.specs.Tuples.{TupleValue, FactValue}
+use Rattle.tuple_text.specs.Tuples.{TupleValue}
 use Rattle.namespaces.specs.Lookup.{Lookup, rule_at}
 use Rattle.version_chains.specs.Commits.{store_at}
 use Rattle.trace_lines.specs.Values.{EntryValue, TraceValue}

@@ -1,58 +1,49 @@
 -- A run that follows a trace, from its first line to its end.
-use Rattle.std.proofs.Common.{◌≡◌, ◌≢◌, ◌⊎◌, inl, inr, ℕ, ◌+◌, ◌-◌, ◌<◌, ◌≤◌, ◌^◌, Bool, true, false, List, [], ◌∷◌, ◌++◌, length, take, Option, None, Some, Result, Ok, Err, refl, sym, ◌∙◌, ap, subst, arith, append_assoc, append-nil, length-append, eqb}
-use Rattle.std.specs.Prelude.{All, IfOk, IfErr, OnOk, IsPermutation, sum_by}
+use Rattle.std.proofs.Common.{◌≡◌, ◌⊎◌, inl, inr, ℕ, ◌+◌, ◌-◌, ◌<◌, ◌≤◌, Bool, true, eqb, List, [], ◌∷◌, ◌++◌, length, take, Option, None, Some, Result, Ok, Err, refl, sym, ◌∙◌, ap, subst, arith, append_assoc, append-nil, length-append}
+use Rattle.std.specs.Prelude.{All}
 use Rattle.std.proofs.lemmas.List.Elements.{All-append, All-nil}
-use Rattle.std.specs.Bool.{then_some}
-use Rattle.std.specs.List.{flat_map}
 use Rattle.std.proofs.Math.Seq.{take-append_seam, take-append-add}
 use Rattle.std.proofs.lemmas.Grind.{flat_map-append}
 use Rattle.std.proofs.lemmas.List.{append_cancel_left}
-use Rattle.std.proofs.lemmas.List.Sorted.{sum_by-IsPermutation}
 use Rattle.std.proofs.lemmas.List.Splits.{length-slice_split}
-use Rattle.std.proofs.lemmas.List.Sums.{sum_by-cons}
-use Rattle.devices.specs.Given.{AreNext, StandBehind}
+use Rattle.devices.specs.Given.{AreNext}
 use Rattle.devices.proofs.Given.{behind-trans, of_whole-map}
-use Rattle.json_lines.specs.Reading.{parts}
+use Rattle.userset_index.specs.Growth.{IsGrowing}
+use Rattle.userset_index.specs.Index.{IndexValue}
+use Rattle.json_lines.specs.Reading.{parts, read_all}
 use Rattle.json_lines.specs.declared.lines.TheConstants.{CHUNK}
 use Rattle.json_lines.specs.declared.next.LineReader.{LineReader}
 use Rattle.trace_lines.specs.Placed.{AreInPlace}
-use Rattle.trace_lines.specs.TraceReads.{IsTraceSoFar}
-use Rattle.trace_lines.specs.Traces.{trace_of}
-use Rattle.trace_lines.specs.Values.{TraceValue, empty_trace}
+use Rattle.trace_lines.specs.Values.{TraceValue, next_line}
 use Rattle.trace_lines.specs.declared.cause.Cause.TheVariants as causes
 use Rattle.trace_lines.specs.declared.cause.TraceFault.{TraceFault}
-use Rattle.evidence_check.specs.Steps.{StepValue}
-use Rattle.findings.specs.Findings.{findings_of}
-use Rattle.findings.specs.Headline.{IsRightAndFresh, IsTraceRightAndFresh}
-use Rattle.findings.specs.Report.{last_lines, line_text}
 use Rattle.findings.specs.declared.finding.Finding.{Finding}
-use Rattle.monitor.specs.Standing.{IsAtEnd}
-use Rattle.monitor.specs.Whole.{TellsAll}
-use Rattle.audit.specs.Audit.{BlamesNoDevice, BlamesOnly, IsNotWrite, IsWrite, verdict_of}
+use Rattle.windows.specs.Growth.{GoesOn}
+use Rattle.follow_laws.specs.Begun.{IsOfBytes}
+use Rattle.monitor.specs.Standing.{IsAtEnd, IsPast}
+use Rattle.monitor.proofs.PastLemmas.{past_on}
+use Rattle.runs.specs.Kept.{KeptValue, log_behind}
+use Rattle.runs.proofs.KeptReadLemmas.{goes_behind}
+use Rattle.audit.specs.Audit.{BlamesNoDevice, BlamesOnly, IsNotWrite, IsWrite}
 use Rattle.audit.specs.Devices.{Reader, Reading, Writing, Writer, reads, OfBytes, OfWhole, GivesFew, GivesNext, ReaderFailed, ReaderNeverFailed, WriterFailed, WriterNeverFailed, StandsBehind}
 use Rattle.audit.specs.Kinds.{IsOneOf}
 use Rattle.audit.specs.Kinds as kind
-use Rattle.audit.specs.Made.{IsMade}
-use Rattle.audit.specs.MadeAudit.{SpeaksOfMade}
-use Rattle.audit.specs.Parts.{Told, TraceRead}
-use Rattle.audit.specs.declared.plain.Verdict.{Verdict}
-use Rattle.audit.specs.declared.plain.Verdict.TheVariants.{Clean, Dirty}
+use Rattle.audit.specs.Parts.{Told}
 use Rattle.audit.specs.declared.plain.AuditFault.{AuditFault}
 use Rattle.audit.specs.declared.plain.AuditFault.TheVariants as faults
-use Rattle.findings.proofs.EachEntryLemmas.{headline_by_bytes}
-use Rattle.audit.proofs.MadeAuditLemmas.{speaks_of_made}
-use Rattle.follow_laws.specs.Told.{all_told}
-use Rattle.follow_laws.specs.Begun.{Begins}
-use Rattle.monitor.specs.Standing.{IsPast}
-use Rattle.monitor.proofs.PastLemmas.{past_on}
-use Rattle.follow.specs.Following.{Ends, Followed, Follows, GoesOnAs, WentOut}
-use Rattle.follow.specs.Heartbeats.{Beats, IsThrough}
+use Rattle.follow.specs.Heartbeats.{ArePast, AreSilent, AreThrough, Beats, IsThrough}
 use Rattle.follow.specs.Pieces.{Piece, piece_text, text_of, told_in}
-use Rattle.follow.specs.SoFar.{IsFollowed, IsToldOf, TellsPiece, TellsRest}
+use Rattle.follow.specs.Reading.{IsKeptSoFar, IsSaidBehind, TakesLine}
+use Rattle.audit.specs.Parts.{LogRead}
+use Rattle.follow.specs.Running.{GoesOnAs, Run, WentOut}
+use Rattle.follow.specs.Lines.{TellsLines}
+use Rattle.follow.specs.SoFar.{IsFollowed, TellsPiece}
+use Rattle.follow.specs.Told.{IsToldFrom}
+use Rattle.audit.specs.Audit.{Says}
 use Rattle.follow.specs.declared.follower.Follower.{Follower}
 use Rattle.follow.specs.declared.heartbeat.Heartbeat.{Heartbeat}
-use Rattle.follow.proofs.BeatLemmas.{ArePast, AreSilent, AreThrough, are_true, are_true_so_far, beats_of, each_more, each_of_none, parts_more, past_longer, past_now, through_longer}
-use Rattle.follow.proofs.GrownLemmas.{begins_whole, followed_longer, told_nothing, told_of_lines}
+use Rattle.follow.proofs.BeatLemmas.{are_true_so_far, beats_of, each_more, each_of_none, parts_more, past_longer, past_now, through_longer}
+use Rattle.follow.proofs.GrownLemmas.{followed_longer, goes_whole, told_of_lines}
 
 -- ---- the lines so far grow
 
@@ -68,11 +59,12 @@ prefix (x ∷ xs) ys (u ∷ us) vs h =
       | inr (d, is) ↦ inr (d, rw (head, is) refl)
     ]
 
-module _ {R : Type 0} (given : R → List ℕ) (ends failures : R → ℕ) (remaining : R → Option (List ℕ)) (first : R) where
+module _ {R : Type 0} (given : R → List ℕ) (ends failures : R → ℕ) (remaining : R → Option (List ℕ)) (first : R)
+    (start : KeptValue) where
   -- what was used grows by a line
-  pub used_grows : (old new : R) (t u : TraceValue) (r s : LineReader)
-      → (so_far : IsTraceSoFar given ends failures remaining first old t r)
-      → (further : IsTraceSoFar given ends failures remaining first new u s) → s.number ≡ r.number + 1
+  pub used_grows : (old new : R) (t u : KeptValue) (r s : LineReader)
+      → (so_far : IsKeptSoFar given ends failures remaining first old start t r)
+      → (further : IsKeptSoFar given ends failures remaining first new start u s) → s.number ≡ r.number + 1
       → AreNext given ends remaining old new → (line : List ℕ) × (further.used ≡ so_far.used ++ line)
   used_grows old new t u r s so_far further next known =
       let came = known.0 in
@@ -94,83 +86,149 @@ module _ {R : Type 0} (given : R → List ℕ) (ends failures : R → ℕ) (rema
       ]
 
   -- all that came, beside the lines that were used
-  pub came_since : (old new : R) (t : TraceValue) (r : LineReader)
-      → (so_far : IsTraceSoFar given ends failures remaining first old t r) → (known : AreNext given ends remaining old new)
+  pub came_since : (old new : R) (t : KeptValue) (r : LineReader)
+      → (so_far : IsKeptSoFar given ends failures remaining first old start t r) → (known : AreNext given ends remaining old new)
       → given new ≡ given first ++ (so_far.used ++ (r.lines ++ known.0))
   came_since old new t r so_far known =
       known.1 ∙ ap (λ (l : List ℕ). l ++ known.0) so_far.gave
       ∙ append_assoc (given first ++ so_far.used) r.lines known.0
       ∙ append_assoc (given first) so_far.used (r.lines ++ known.0)
 
+  -- a further line was taken
+  pub taken_further : (old new : R) (k l : KeptValue) (r s : LineReader)
+      → (so_far : IsKeptSoFar given ends failures remaining first old start k r) → {result : Result Bool AuditFault}
+      → TakesLine given ends failures remaining old new k l r s result → result ≡ Ok true
+      → (further : IsKeptSoFar given ends failures remaining first new start l s) × (line : List ℕ)
+      × (further.used ≡ so_far.used ++ line)
+  taken_further old new k l r s so_far takes more =
+      let further = takes.goes more first start so_far in
+      let grows = used_grows old new k l r s so_far further (takes.next more).0 takes.known in
+      (further, grows.0, grows.1)
+
 -- ---- what was told and written of the lines so far
 
-pub record IsTextSoFar (used start taken : List ℕ) (f : Follower) : Type 0 where
+pub record IsTextSoFar (says : Says) (first base : ℕ) (used start taken : List ℕ) (f : Follower) : Type 0 where
   pub pieces : List Piece
   pub same : f.told.items ≡ told_in pieces
   pub went : taken ≡ start ++ text_of pieces
   pub lines : List ℕ
   pub rest : List ℕ
   pub among : used ≡ lines ++ rest
-  pub told : IsToldOf lines (told_in pieces)
+  pub told : IsToldFrom says first base lines (told_in pieces)
   pub silent : AreSilent pieces
-  pub through : (u : TraceValue) → GoesOnAs lines u → AreThrough u pieces
+  pub through : (u : TraceValue) → GoesOnAs says lines u → AreThrough u pieces
 
 -- and of each longer log it is told, too
-pub record IsRunSoFar (used start taken : List ℕ) (f : Follower) : Type 0 where
-  pub text : IsTextSoFar used start taken f
-  pub longer : (u : TraceValue) (more : List ℕ) → trace_of true (used ++ more) ≡ Ok u → AreInPlace u → IsFollowed u f
-  pub through : (u : TraceValue) (more : List ℕ) → trace_of true (used ++ more) ≡ Ok u → AreThrough u text.pieces
-  pub past : (u : TraceValue) (more : List ℕ) → trace_of true (used ++ more) ≡ Ok u → AreInPlace u
+pub record IsRunSoFar (says : Says) (first base : ℕ) (used start taken : List ℕ) (f : Follower) : Type 0 where
+  pub text : IsTextSoFar says first base used start taken f
+  pub from : (f.first ≡ first) × (f.base ≡ base)
+  pub longer : (u : TraceValue) (more : List ℕ) → says true (used ++ more) ≡ Ok u → AreInPlace u → IsOfBytes u
+      → IsFollowed u f
+  pub through : (u : TraceValue) (more : List ℕ) → says true (used ++ more) ≡ Ok u → AreThrough u text.pieces
+  pub past : (u : TraceValue) (more : List ℕ) → says true (used ++ more) ≡ Ok u → AreInPlace u
       → ArePast u f.monitor text.pieces
 
-pub run_first : (f : Follower) (start : List ℕ) → f.told.items ≡ [] → ((t : TraceValue) → IsFollowed t f)
-    → IsRunSoFar [] start start f
-run_first f start none followed = record {
-  text = record {
+told_nothing : (says : Says) (first base : ℕ) (t : TraceValue) → says true [] ≡ Ok t → IsToldFrom says first base [] []
+told_nothing says first base t said = record {
+  trace = t;
+  said = said;
+  given = [];
+  line = 0;
+  made = λ i e at l is from lt. absurd (omega (arith, lt));
+  is = refl;
+}
+
+-- no bytes say the log that stands
+said_nothing : (s : KeptValue) → log_behind s true [] ≡ Ok s.log
+unfolding read_all
+said_nothing s = refl
+
+module _ (says : Says) (s : KeptValue) (means : IsSaidBehind s says) where
+  none_said : says true [] ≡ Ok s.log
+  none_said = means true [] ∙ said_nothing s
+
+  pub run_first : (first base : ℕ) (f : Follower) (start : List ℕ) → f.told.items ≡ [] → (f.first ≡ first) × (f.base ≡ base)
+      → ((u : TraceValue) → GoesOn s.lines s.log u → AreInPlace u → IsOfBytes u → IsFollowed u f)
+      → next_line s.log ≤ s.lines + 1 → IsRunSoFar says first base [] start start f
+  run_first first base f start none from followed fits = record {
+    text = record {
+      pieces = [];
+      same = none;
+      went = sym (append-nil start);
+      lines = [];
+      rest = [];
+      among = refl;
+      told = told_nothing says first base s.log none_said;
+      silent = each_of_none _;
+      through = λ u goes. each_of_none _;
+    };
+    from = from;
+    longer = λ u more is placed good. followed u (goes_behind s fits more u (sym (means true more) ∙ is)) placed good;
+    through = λ u more is. each_of_none _;
+    past = λ u more is placed. each_of_none _;
+  }
+
+  pub nothing_at_all : (first base : ℕ) (start : List ℕ) → WentOut says (IsToldFrom says first base) (λ a p e v. ⊥) [] start start
+  nothing_at_all first base start = record {
     pieces = [];
-    same = none;
+    ending = [];
+    bytes = 0;
     went = sym (append-nil start);
     lines = [];
     rest = [];
     among = refl;
-    told = told_nothing;
-    silent = each_of_none _;
-    through = λ u goes. each_of_none _;
-  };
-  longer = λ u more is placed. followed u;
-  through = λ u more is. each_of_none _;
-  past = λ u more is placed. each_of_none _;
-}
+    told = told_nothing says first base s.log none_said;
+    beats = λ u goes. each_of_none _;
+    ends = inl refl;
+  }
 
--- lines were taken
-pub run_line : (used further line start taken : List ℕ) (f : Follower) → further ≡ used ++ line
-    → IsRunSoFar used start taken f → IsRunSoFar further start taken f
-run_line used further line start taken f is run = record {
-  text = record {
-    pieces = run.text.pieces;
-    same = run.text.same;
-    went = run.text.went;
-    lines = run.text.lines;
-    rest = run.text.rest ++ line;
-    among = is ∙ ap (λ (l : List ℕ). l ++ line) run.text.among ∙ append_assoc run.text.lines run.text.rest line;
-    told = run.text.told;
-    silent = run.text.silent;
-    through = run.text.through;
-  };
-  longer = λ u more said placed. run.longer u (line ++ more) (shorter u more said) placed;
-  through = λ u more said. run.through u (line ++ more) (shorter u more said);
-  past = λ u more said placed. run.past u (line ++ more) (shorter u more said) placed;
-}
-  where
-    shorter : (u : TraceValue) (more : List ℕ) → trace_of true (further ++ more) ≡ Ok u
-        → trace_of true (used ++ (line ++ more)) ≡ Ok u
-    shorter u more said =
-        ap (trace_of true) (sym (append_assoc used line more) ∙ ap (λ (l : List ℕ). l ++ more) (sym is)) ∙ said
+module _ (says : Says) (first base : ℕ) where
+  -- lines were taken
+  pub run_line : (used further line start taken : List ℕ) (f : Follower) → further ≡ used ++ line
+      → IsRunSoFar says first base used start taken f → IsRunSoFar says first base further start taken f
+  run_line used further line start taken f is run = record {
+    text = record {
+      pieces = run.text.pieces;
+      same = run.text.same;
+      went = run.text.went;
+      lines = run.text.lines;
+      rest = run.text.rest ++ line;
+      among = is ∙ ap (λ (l : List ℕ). l ++ line) run.text.among ∙ append_assoc run.text.lines run.text.rest line;
+      told = run.text.told;
+      silent = run.text.silent;
+      through = run.text.through;
+    };
+    from = run.from;
+    longer = λ u more said placed good. run.longer u (line ++ more) (shorter u more said) placed good;
+    through = λ u more said. run.through u (line ++ more) (shorter u more said);
+    past = λ u more said placed. run.past u (line ++ more) (shorter u more said) placed;
+  }
+    where
+      shorter : (u : TraceValue) (more : List ℕ) → says true (further ++ more) ≡ Ok u
+          → says true (used ++ (line ++ more)) ≡ Ok u
+      shorter u more said =
+          ap (says true) (sym (append_assoc used line more) ∙ ap (λ (l : List ℕ). l ++ more) (sym is)) ∙ said
 
-pub followed_now : (used start taken : List ℕ) (f : Follower) (t : TraceValue) → IsRunSoFar used start taken f
-    → trace_of true used ≡ Ok t → AreInPlace t → IsFollowed t f
-followed_now used start taken f t run said placed =
-    run.longer t [] (ap (trace_of true) (append-nil used) ∙ said) placed
+  pub followed_now : (used start taken : List ℕ) (f : Follower) (t : TraceValue) → IsRunSoFar says first base used start taken f
+      → says true used ≡ Ok t → AreInPlace t → IsOfBytes t → IsFollowed t f
+  followed_now used start taken f t run said placed good =
+      run.longer t [] (ap (says true) (append-nil used) ∙ said) placed good
+
+  -- nothing further went out
+  pub nothing_went : (used start taken : List ℕ) (f : Follower) → IsTextSoFar says first base used start taken f
+      → (came rest : List ℕ) → came ≡ used ++ rest → WentOut says (IsToldFrom says first base) (λ a p e v. ⊥) came start taken
+  nothing_went used start taken f so_far came rest is = record {
+    pieces = so_far.pieces;
+    ending = [];
+    bytes = length (text_of so_far.pieces);
+    went = so_far.went ∙ ap (λ (l : List ℕ). start ++ l) (sym (take-append_seam (text_of so_far.pieces) []));
+    lines = so_far.lines;
+    rest = so_far.rest ++ rest;
+    among = is ∙ ap (λ (l : List ℕ). l ++ rest) so_far.among ∙ append_assoc so_far.lines so_far.rest rest;
+    told = so_far.told;
+    beats = λ u goes. are_true_so_far u so_far.pieces (so_far.through u goes) so_far.silent;
+    ends = inl refl;
+  }
 
 told_more : (pieces : List Piece) (p : Piece) → told_in (pieces ++ p ∷ []) ≡ told_in pieces ++ p.told
 told_more pieces p = flat_map-append (λ (q : Piece). q.told) pieces (p ∷ [])
@@ -180,74 +238,40 @@ text_more : (pieces : List Piece) (p : Piece) → text_of (pieces ++ p ∷ []) �
 text_more pieces p = flat_map-append piece_text pieces (p ∷ [])
     ∙ ap (λ (l : List ℕ). text_of pieces ++ l) (append-nil (piece_text p))
 
--- nothing further went out
-pub nothing_went : (used start taken : List ℕ) (f : Follower) → IsTextSoFar used start taken f → (came rest : List ℕ)
-    → came ≡ used ++ rest → WentOut came start taken
-nothing_went used start taken f so_far came rest is = record {
-  pieces = so_far.pieces;
-  ending = [];
-  bytes = length (text_of so_far.pieces);
-  went = so_far.went ∙ ap (λ (l : List ℕ). start ++ l) (sym (take-append_seam (text_of so_far.pieces) []));
-  lines = so_far.lines;
-  rest = so_far.rest ++ rest;
-  among = is ∙ ap (λ (l : List ℕ). l ++ rest) so_far.among ∙ append_assoc so_far.lines so_far.rest rest;
-  told = so_far.told;
-  beats = λ u goes. are_true_so_far u so_far.pieces (so_far.through u goes) so_far.silent;
-  ends = inl refl;
-}
-
-pub nothing_at_all : (start : List ℕ) → WentOut [] start start
-nothing_at_all start = record {
-  pieces = [];
-  ending = [];
-  bytes = 0;
-  went = sym (append-nil start);
-  lines = [];
-  rest = [];
-  among = refl;
-  told = told_nothing;
-  beats = λ u goes. each_of_none _;
-  ends = inl refl;
-}
-
--- so many whole lines, where their number is given
-abbrev pub AreLines : List ℕ → Option ℕ → Type 0
-AreLines used line = (n : ℕ) → line ≡ Some n → (a : List ℕ) × (used ≡ a ++ 10 ∷ []) × (n ≡ length (parts a))
+-- so many whole lines behind others, where the number of the last is given
+abbrev pub AreLines : ℕ → List ℕ → Option ℕ → Type 0
+AreLines before used line =
+    (n : ℕ) → line ≡ Some n → (a : List ℕ) × (used ≡ a ++ 10 ∷ []) × (n ≡ before + length (parts a))
 
 pub whole_lines : {R : Type 0} (given : R → List ℕ) (ends failures : R → ℕ) (remaining : R → Option (List ℕ)) (first now : R)
-    (t : TraceValue) (r : LineReader) → (so_far : IsTraceSoFar given ends failures remaining first now t r) → 1 < r.number
-    → (b : Bool) (line : Option ℕ) → line ≡ then_some b (r.number - 1) → AreLines so_far.used line
-whole_lines given ends failures remaining first now t r so_far later b line is n here =
+    (start t : KeptValue) (r : LineReader) → (so_far : IsKeptSoFar given ends failures remaining first now start t r)
+    → 1 < r.number → (before : ℕ) (line : Option ℕ) → ((n : ℕ) → line ≡ Some n → n ≡ before + (r.number - 1))
+    → AreLines before so_far.used line
+whole_lines given ends failures remaining first now start t r so_far later before line is n here =
     let whole = so_far.whole later in
     let number = so_far.follows.counted [] in
     let used = ap (λ (l : List ℕ). length (parts l)) (append-nil so_far.used ∙ whole.1) in
     let more = parts_more whole.0 in
     let one : length (parts []) ≡ 1 = refl in
-    let last : n ≡ r.number - 1 = given_last b (sym is ∙ here) in
+    let last : n ≡ before + (r.number - 1) = is n here in
     (whole.0, whole.1, omega (arith, number, used, more, one, last))
-  where
-    given_last : (b : Bool) → then_some b (r.number - 1) ≡ Some n → n ≡ r.number - 1
-    given_last true same = cc
-    given_last false same = absurd cc
 
-pub no_lines : (used : List ℕ) → AreLines used None
-no_lines used n here = absurd cc
-
--- where all lines were taken, the heartbeats are true of their log
-pub record IsTextOf (used start taken : List ℕ) (f : Follower) (t : TraceValue) : Type 0 where
-  pub text : IsTextSoFar used start taken f
-  pub through : AreThrough t text.pieces
-  pub past : ArePast t f.monitor text.pieces
+pub no_lines : (before : ℕ) (used : List ℕ) → AreLines before used None
+no_lines before used n here = absurd cc
 
 -- what the lines let tell is told
-module _ (used start taken : List ℕ) (f g : Follower) (run : IsRunSoFar used start taken f) (t : TraceValue)
-    (said : trace_of true used ≡ Ok t) (text : List ℕ) (line : Option ℕ) (lines : AreLines used line)
-    (tells : TellsPiece t line f g text) where
+module _ (says : Says) (s : KeptValue) (means : IsSaidBehind s says)
+    (fits : next_line s.log ≤ s.lines + 1) (first base : ℕ) (low : first ≤ s.lines + 1) (used start taken : List ℕ)
+    (f g : Follower) (run : IsRunSoFar says first base used start taken f) (t : TraceValue) (said : says true used ≡ Ok t)
+    (text : List ℕ) (line : Option ℕ) (lines : AreLines s.lines used line) (tells : TellsPiece t line f g text) where
   abbrev pieces : List Piece
   pieces = run.text.pieces ++ tells.piece ∷ []
 
-  said_itself : trace_of true (used ++ []) ≡ Ok t
-  said_itself = ap (trace_of true) (append-nil used) ∙ said
+  said_itself : says true (used ++ []) ≡ Ok t
+  said_itself = ap (says true) (append-nil used) ∙ said
+
+  from_now : (g.first ≡ first) × (g.base ≡ base)
+  from_now = (tells.same.0 ∙ run.from.0, tells.same.1 ∙ run.from.1)
 
   told_behind : g.told.items ≡ told_in run.text.pieces ++ tells.piece.told
   told_behind = tells.behind ∙ ap (λ (fs : List Finding). fs ++ tells.piece.told) run.text.same
@@ -255,8 +279,10 @@ module _ (used start taken : List ℕ) (f g : Follower) (run : IsRunSoFar used s
   told_now : g.told.items ≡ told_in pieces
   told_now = told_behind ∙ sym (told_more run.text.pieces tells.piece)
 
-  told_here : IsToldOf used (told_in pieces)
-  told_here = subst (IsToldOf used) told_now (told_of_lines used t g said tells.followed)
+  told_here : IsToldFrom says first base used (told_in pieces)
+  told_here = subst (λ (n : ℕ). IsToldFrom says n base used (told_in pieces)) from_now.0
+      (subst (λ (b : ℕ). IsToldFrom says g.first b used (told_in pieces)) from_now.1
+      (subst (IsToldFrom says g.first g.base used) told_now (told_of_lines says used t g said tells.followed)))
 
   beat : (h : Heartbeat) → tells.piece.heartbeat ≡ Some h → Beats t g.told.items line h
   beat = beats_of tells.piece.heartbeat (Beats t g.told.items line) tells.beats
@@ -275,16 +301,16 @@ module _ (used start taken : List ℕ) (f g : Follower) (run : IsRunSoFar used s
       ))
 
   -- in a longer log
-  module _ (u : TraceValue) (more : List ℕ) (reads : trace_of true (used ++ more) ≡ Ok u) (h : Heartbeat)
+  module _ (u : TraceValue) (more : List ℕ) (reads : says true (used ++ more) ≡ Ok u) (h : Heartbeat)
       (here : tells.piece.heartbeat ≡ Some h) where
-    whole : (a : List ℕ) × (used ≡ a ++ 10 ∷ []) × ((beat h here).last ≡ length (parts a))
+    whole : (a : List ℕ) × (used ≡ a ++ 10 ∷ []) × ((beat h here).last ≡ s.lines + length (parts a))
     whole = lines (beat h here).last (beat h here).given
 
-    goes : Begins (length (parts whole.0)) t u
-    goes = begins_whole whole.0 more t u (ap (trace_of true) (sym whole.1) ∙ said)
-        (ap (λ (l : List ℕ). trace_of true (l ++ more)) (sym whole.1) ∙ reads)
+    goes : GoesOn (s.lines + length (parts whole.0)) t u
+    goes = goes_whole s fits says means whole.0 more t u (ap (says true) (sym whole.1) ∙ said)
+        (ap (λ (l : List ℕ). says true (l ++ more)) (sym whole.1) ∙ reads)
 
-    within : h.line ≤ length (parts whole.0)
+    within : h.line ≤ s.lines + length (parts whole.0)
     within = let le = (beat h here).within in let same = whole.2 in omega (arith, le, same)
 
     through_beat : IsThrough u h.line h.entries
@@ -295,9 +321,9 @@ module _ (used start taken : List ℕ) (f g : Follower) (run : IsRunSoFar used s
         past_longer t u goes h.line within g.monitor tells.placed placed (let all = tells.all.commits in omega (arith, all))
         (past_now t g.monitor h.line h.entries tells.all (beat h here).through)
 
-  through_now : (u : TraceValue) → GoesOnAs used u → AreThrough u pieces
+  through_now : (u : TraceValue) → GoesOnAs says used u → AreThrough u pieces
   through_now u (inl reads) = each_more (λ earlier later p h. IsThrough u h.line h.entries) run.text.pieces tells.piece
-      (run.through u [] (ap (trace_of true) (append-nil used) ∙ reads))
+      (run.through u [] (ap (says true) (append-nil used) ∙ reads))
       (λ h here. let same : t ≡ u = cc (said, reads) in
       subst (λ (x : TraceValue). IsThrough x h.line h.entries) same (beat h here).through)
   through_now u (inr (a, more, is, reads)) = each_more (λ earlier later p h. IsThrough u h.line h.entries) run.text.pieces
@@ -306,7 +332,7 @@ module _ (used start taken : List ℕ) (f g : Follower) (run : IsRunSoFar used s
   -- the follower took all that stands there
   goes_on : (u : TraceValue) (n : ℕ) → IsPast u f.monitor n → IsPast u g.monitor n
   goes_on u n past =
-      let stands = (followed_now used start taken f t run said tells.placed).stands in
+      let stands = (followed_now says first base used start taken f t run said tells.placed tells.good).stands in
       let entries = stands.entries in
       let commits = stands.commits in
       let all = tells.all in
@@ -319,7 +345,7 @@ module _ (used start taken : List ℕ) (f g : Follower) (run : IsRunSoFar used s
       (λ earlier later p h is here. goes_on t h.line (run.past t [] said_itself tells.placed earlier later p h is here))
       (λ h here. past_now t g.monitor h.line h.entries tells.all (beat h here).through)
 
-  pub text_told : (now : List ℕ) → now ≡ taken ++ text → IsTextSoFar used start now g
+  text_told : (now : List ℕ) → now ≡ taken ++ text → IsTextSoFar says first base used start now g
   text_told now went = record {
     pieces = pieces;
     same = told_now;
@@ -334,16 +360,34 @@ module _ (used start taken : List ℕ) (f g : Follower) (run : IsRunSoFar used s
     through = through_now;
   }
 
-  pub text_whole : (now : List ℕ) → now ≡ taken ++ text → IsTextOf used start now g t
+  -- at the end of the lines
+  pub lines_told : (k : KeptValue) (v : IndexValue) (n : ℕ) → k.log ≡ t → IsGrowing k.log.declarations k.log.commits v
+      → (now : List ℕ) → now ≡ taken ++ text → TellsLines says g used start now (k, v, n)
   unfolding text_told
-  text_whole now went = record { text = text_told now went; through = through_now t (inl said); past = past_here }
+  lines_told k v n is growing now went = record {
+    said = said ∙ ap (λ (x : TraceValue). Ok x) (sym is);
+    pieces = pieces;
+    went = (text_told now went).went;
+    same = told_now;
+    followed = subst (λ (x : TraceValue). IsFollowed x g) (sym is) tells.followed;
+    all = subst (λ (x : TraceValue). IsAtEnd x g.monitor) (sym is) tells.all;
+    silent = silent_now;
+    through = subst (λ (x : TraceValue). AreThrough x pieces) (sym is) (through_now t (inl said));
+    longer = through_now;
+    past = subst (λ (x : TraceValue). ArePast x g.monitor pieces) (sym is) past_here;
+    indexed = growing;
+  }
 
-  pub run_told : (a : List ℕ) → used ≡ a ++ 10 ∷ [] → (now : List ℕ) → now ≡ taken ++ text → IsRunSoFar used start now g
+  pub run_told : (a : List ℕ) → used ≡ a ++ 10 ∷ [] → (now : List ℕ) → now ≡ taken ++ text
+      → IsRunSoFar says first base used start now g
   unfolding text_told
   run_told a is now went = record {
     text = text_told now went;
-    longer = λ u more reads placed. followed_longer a more t u g (ap (trace_of true) (sym is) ∙ said)
-        (ap (λ (l : List ℕ). trace_of true (l ++ more)) (sym is) ∙ reads) tells.placed placed tells.followed tells.all;
+    from = from_now;
+    longer = λ u more reads placed good. followed_longer t u (goes_whole s fits says means a more t u
+        (ap (says true) (sym is) ∙ said) (ap (λ (l : List ℕ). says true (l ++ more)) (sym is) ∙ reads))
+        tells.placed placed tells.good good g
+        (let same = from_now.0 in omega (arith, low, same)) tells.followed tells.all;
     through = λ u more reads. through_now u (inr (a, more, is, reads));
     past = λ u more reads placed. each_more (λ earlier later p h. IsPast u g.monitor h.line) run.text.pieces tells.piece
         (λ earlier later p h is here. goes_on u h.line (run.past u more reads placed earlier later p h is here))
@@ -351,7 +395,8 @@ module _ (used start taken : List ℕ) (f g : Follower) (run : IsRunSoFar used s
   }
 
   -- a part of the text went out
-  pub part_went : (came rest now : List ℕ) (n : ℕ) → came ≡ used ++ rest → now ≡ taken ++ take n text → WentOut came start now
+  pub part_went : (came rest now : List ℕ) (n : ℕ) → came ≡ used ++ rest → now ≡ taken ++ take n text
+      → WentOut says (IsToldFrom says first base) (λ a p e v. ⊥) came start now
   part_went came rest now n among went = record {
     pieces = pieces;
     ending = [];
@@ -370,93 +415,28 @@ module _ (used start taken : List ℕ) (f g : Follower) (run : IsRunSoFar used s
   }
 
 -- where telling failed
-pub tell_went : (used start : List ℕ) (f g : Follower) (t : TraceValue) → trace_of true used ≡ Ok t → (line : Option ℕ)
-    → AreLines used line → (out : Writing) → IsRunSoFar used start out.before.taken f → (e : AuditFault)
-    → Told (λ text (l : TraceValue). (l ≡ t) × TellsPiece t line f g text) out (Err e) → (came rest : List ℕ)
-    → came ≡ used ++ rest → WentOut came start out.after.taken
-tell_went used start f g t said line lines out run (faults.Write n) told came rest is =
-    let h = told.write n refl in
-    part_went used start out.before.taken f g run t said h.1 line lines h.2.1 came rest out.after.taken n is h.3.1
-tell_went used start f g t said line lines out run (faults.Trace x) told came rest is =
-    subst (WentOut came start) (sym (told.unwritten tt)) (nothing_went used start out.before.taken f run.text came rest is)
-tell_went used start f g t said line lines out run (faults.Evidence x) told came rest is =
-    subst (WentOut came start) (sym (told.unwritten tt)) (nothing_went used start out.before.taken f run.text came rest is)
-tell_went used start f g t said line lines out run faults.OutOfMemory told came rest is =
-    subst (WentOut came start) (sym (told.unwritten tt)) (nothing_went used start out.before.taken f run.text came rest is)
-tell_went used start f g t said line lines out run faults.Limits told came rest is =
-    subst (WentOut came start) (sym (told.unwritten tt)) (nothing_went used start out.before.taken f run.text came rest is)
-tell_went used start f g t said line lines out run faults.Joined told came rest is =
-    subst (WentOut came start) (sym (told.unwritten tt)) (nothing_went used start out.before.taken f run.text came rest is)
-tell_went used start f g t said line lines out run faults.Input told came rest is =
-    subst (WentOut came start) (sym (told.unwritten tt)) (nothing_went used start out.before.taken f run.text came rest is)
+module _ (says : Says) (s : KeptValue) (means : IsSaidBehind s says)
+    (fits : next_line s.log ≤ s.lines + 1) (first base : ℕ) (low : first ≤ s.lines + 1) (used start : List ℕ) (f g : Follower)
+    (k : KeptValue) (said : says true used ≡ Ok k.log) (line : Option ℕ) (lines : AreLines s.lines used line) (out : Writing)
+    (run : IsRunSoFar says first base used start out.before.taken f) (came rest : List ℕ) (is : came ≡ used ++ rest) where
+  abbrev WentSoFar : List ℕ → Type 0
+  WentSoFar = WentOut says (IsToldFrom says first base) (λ a p e v. ⊥) came start
 
--- ---- the end
+  unwritten : out.after.taken ≡ out.before.taken → WentSoFar out.after.taken
+  unwritten same = subst WentSoFar (sym same) (nothing_went says first base used start out.before.taken f run.text came rest is)
 
-nil_permuted : (found : List Finding) → IsPermutation [] found → found ≡ []
-nil_permuted [] same = refl
-nil_permuted (x ∷ found) same =
-    let one : Finding → ℕ = λ f. 1 in
-    let none : sum_by one (x ∷ found) ≡ 0 = sum_by-IsPermutation one [] (x ∷ found) same in
-    let some = sum_by-cons one x found in
-    absurd (omega (arith, none, some))
-
-none_told : (fs : List Finding) → Clean ≡ verdict_of fs → [] ≡ fs
-none_told [] is = refl
-none_told (x ∷ fs) is = cc
-
-nothing_found : (told found : List Finding) → [] ≡ told → IsPermutation told found → found ≡ []
-nothing_found told found none same =
-    nil_permuted found (subst (λ (fs : List Finding). IsPermutation fs found) (sym none) same)
-
-module _ (used start taken : List ℕ) (f g : Follower) (t : TraceValue) (whole : IsTextOf used start taken f t)
-    (said : trace_of true used ≡ Ok t) (text : List ℕ) (tells : TellsRest t f g text) where
-  abbrev so_far : IsTextSoFar used start taken f
-  so_far = whole.text
-
-  told_all : told_in so_far.pieces ++ tells.rest ≡ g.told.items
-  told_all = ap (λ (fs : List Finding). fs ++ tells.rest) (sym so_far.same) ∙ sym tells.behind
-
-  end_told : (v : Verdict) → v ≡ verdict_of g.told.items → Ends used so_far.pieces text v
-  end_told v is = record {
-    trace = t;
-    said = said;
-    rest = tells.rest;
-    all = subst (TellsAll IsMade t []) (sym told_all) tells.all;
-    beats = are_true t so_far.pieces tells.rest whole.through so_far.silent
-        (λ earlier later p h is here. tells.silent h.line (whole.past earlier later p h is here));
-    text = tells.is ∙ ap (λ (fs : List Finding). flat_map line_text tells.rest ++ last_lines fs (length t.entries)) (sym told_all);
-    verdict = is ∙ ap verdict_of (sym told_all);
-  }
-
-  pub end_went : (v : Verdict) → v ≡ verdict_of g.told.items → (now : List ℕ) → now ≡ taken ++ text → Follows used start now v
-  end_went v is now went = (
-    so_far.pieces,
-    text,
-    end_told v is,
-    went ∙ ap (λ (l : List ℕ). l ++ text) so_far.went ∙ append_assoc start (text_of so_far.pieces) text,
-  )
-
-  pub end_part : (v : Verdict) → v ≡ verdict_of g.told.items → (now : List ℕ) (n : ℕ) → now ≡ taken ++ take n text
-      → WentOut used start now
-  end_part v is now n went = record {
-    pieces = so_far.pieces;
-    ending = text;
-    bytes = length (text_of so_far.pieces) + n;
-    went = went ∙ ap (λ (l : List ℕ). l ++ take n text) so_far.went ∙ append_assoc start (text_of so_far.pieces) (take n text)
-        ∙ ap (λ (l : List ℕ). start ++ l) (sym (take-append-add (text_of so_far.pieces) text n));
-    lines = so_far.lines;
-    rest = so_far.rest;
-    among = so_far.among;
-    told = so_far.told;
-    beats = λ u goes. are_true_so_far u so_far.pieces (so_far.through u goes) so_far.silent;
-    ends = inr (v, end_told v is);
-  }
-
-  pub end_clean : Clean ≡ verdict_of g.told.items
-      → ((evidence : List (Option (List StepValue))) → findings_of t evidence ≡ [] → IsRightAndFresh t)
-      → IsTraceRightAndFresh used
-  end_clean is law = headline_by_bytes used t said (law tells.all.given (nothing_found (all_told t tells.all.given)
-      (findings_of t tells.all.given) (none_told g.told.items is ∙ tells.all.told) tells.all.once))
+  pub tell_went : (e : AuditFault)
+      → Told (λ text (l : KeptValue). (l ≡ k) × TellsPiece k.log line f g text) out (Err e) → WentSoFar out.after.taken
+  tell_went (faults.Write n) told =
+      let h = told.write n refl in
+      part_went says s means fits first base low used start out.before.taken f g run k.log said h.1 line lines h.2.1 came rest
+      out.after.taken n is h.3.1
+  tell_went (faults.Trace x) told = unwritten (told.unwritten tt)
+  tell_went (faults.Evidence x) told = unwritten (told.unwritten tt)
+  tell_went faults.OutOfMemory told = unwritten (told.unwritten tt)
+  tell_went faults.Limits told = unwritten (told.unwritten tt)
+  tell_went faults.Joined told = unwritten (told.unwritten tt)
+  tell_went faults.Input told = unwritten (told.unwritten tt)
 
 -- ---- what is answered
 
@@ -467,9 +447,9 @@ pub record IsFine (trace : Reading) : Type 0 where
   pub kept : ReaderNeverFailed trace
 
 pub fine_so_far : {R : Type 0} (given : R → List ℕ) (ends failures : R → ℕ) (remaining : R → Option (List ℕ)) (first now : R)
-    (t : TraceValue) (r : LineReader) → IsTraceSoFar given ends failures remaining first now t r → length r.lines ≤ CHUNK
+    (start k : KeptValue) (r : LineReader) → IsKeptSoFar given ends failures remaining first now start k r → length r.lines ≤ CHUNK
     → IsFine (reads given ends failures remaining first now)
-fine_so_far given ends failures remaining first now t r so_far few = record {
+fine_so_far given ends failures remaining first now start k r so_far few = record {
   most = (
     so_far.used ++ r.lines,
     so_far.gave ∙ append_assoc (given first) so_far.used r.lines,
@@ -479,85 +459,100 @@ fine_so_far given ends failures remaining first now t r so_far few = record {
   kept = so_far.kept;
 }
 
-pub fine_whole : (trace : Reading) (t : TraceValue) → TraceRead trace (Ok t) → IsFine trace
-fine_whole trace t read = record { most = read.most; known = read.known; kept = read.kept }
+pub fine_whole : (says : Says) (trace : Reading) (t : TraceValue) → LogRead says trace (Ok t) → IsFine trace
+fine_whole says trace t read = record { most = read.most; known = read.known; kept = read.kept }
 
--- the writer stopped the run, or there was no memory
-pub stopped : (trace : Reading) (out : Writing) (e : AuditFault) → IsOneOf (kind.write ∷ kind.memory ∷ []) e → IsFine trace
-    → OfBytes trace (λ came. WentOut came out.before.taken out.after.taken) → StandsBehind out
-    → (IsWrite e → WriterFailed out) → (IsNotWrite e → WriterNeverFailed out) → Followed trace out (Err e)
-stopped trace out e kinds fine stands held failed unfailed = record {
+module _ {V : Type 0} (says : Says) (Follows : List ℕ → List ℕ → List ℕ → V → Type 0)
+    (Stands : List ℕ → List ℕ → List ℕ → Type 0) (trace : Reading) (out : Writing) (e : AuditFault) where
+  -- the writer stopped the run, or there was no memory
+  pub stopped : IsOneOf (kind.write ∷ kind.memory ∷ []) e → IsFine trace
+      → OfBytes trace (λ came. Stands came out.before.taken out.after.taken) → StandsBehind out
+      → (IsWrite e → WriterFailed out) → (IsNotWrite e → WriterNeverFailed out) → Run says Follows Stands trace out (Err e)
+  stopped kinds fine stands held failed unfailed = record {
+    follows = tt;
+    stands = stands;
+    trace_refused = λ f is. absurd (no_trace e f kinds (cc (is)));
+    trace_cut = λ f is _. absurd (no_trace e f kinds (cc (is)));
+    most = fine.most;
+    known = fine.known;
+    held = held;
+    devices = blames e kinds failed;
+    kept = tt;
+    unfailed = λ none. (fine.kept, unfailed (not_write e none));
+  }
+    where
+      no_trace : (e : AuditFault) (f : TraceFault) → IsOneOf (kind.write ∷ kind.memory ∷ []) e → e ≡ faults.Trace f → ⊥
+      no_trace (faults.Trace g) f is same = absurd (cc (is.0))
+      no_trace (faults.Evidence g) f is same = cc
+      no_trace (faults.Write n) f is same = cc
+      no_trace faults.OutOfMemory f is same = cc
+      no_trace faults.Limits f is same = cc
+      no_trace faults.Joined f is same = cc
+      no_trace faults.Input f is same = cc
+
+      not_write : (e : AuditFault) → BlamesNoDevice e → IsNotWrite e
+      not_write (faults.Trace f) none = tt
+      not_write (faults.Evidence f) none = tt
+      not_write (faults.Write n) none = none
+      not_write faults.OutOfMemory none = tt
+      not_write faults.Limits none = tt
+      not_write faults.Joined none = tt
+      not_write faults.Input none = tt
+
+      blames : (e : AuditFault) → IsOneOf (kind.write ∷ kind.memory ∷ []) e → (IsWrite e → WriterFailed out)
+          → BlamesOnly ⊥ (ReaderFailed trace) ⊥ (WriterFailed out) e
+      blames (faults.Trace f) is failed = absurd (cc (is.0))
+      blames (faults.Evidence f) is failed = absurd (cc (is.0))
+      blames (faults.Write n) is failed = failed tt
+      blames faults.OutOfMemory is failed = tt
+      blames faults.Limits is failed = tt
+      blames faults.Joined is failed = tt
+      blames faults.Input is failed = absurd (cc (is.0))
+
+  -- a line was refused, or the reader failed
+  pub refused : LogRead says trace (Err e) → OfBytes trace (λ came. Stands came out.before.taken out.after.taken)
+      → StandsBehind out → WriterNeverFailed out → Run says Follows Stands trace out (Err e)
+  refused read stands held kept = record {
+    follows = tt;
+    stands = stands;
+    trace_refused = λ f is. read.refused f (cc (is));
+    trace_cut = λ f is by. read.cut f (cc (is)) by;
+    most = read.most;
+    known = read.known;
+    held = held;
+    devices = blames e read.kinds (λ f is by. read.failed f (ap (λ (x : AuditFault). Err x) is) by);
+    kept = tt;
+    unfailed = λ none. (read.unfailed none, kept);
+  }
+    where
+      blames : (e : AuditFault) → IsOneOf (kind.trace ∷ kind.memory ∷ []) e
+          → ((f : TraceFault) → e ≡ faults.Trace f → f.cause ≡ causes.Read → ReaderFailed trace)
+          → BlamesOnly ⊥ (ReaderFailed trace) ⊥ (WriterFailed out) e
+      blames (faults.Trace f) is failed = failed f refl
+      blames (faults.Evidence f) is failed = absurd (cc (is.0))
+      blames (faults.Write n) is failed = absurd (cc (is.0))
+      blames faults.OutOfMemory is failed = tt
+      blames faults.Limits is failed = tt
+      blames faults.Joined is failed = tt
+      blames faults.Input is failed = absurd (cc (is.0))
+
+-- a run that a fault stopped, told of another answer
+pub stopped_alike : {V W : Type 0} (says : Says) (Follows : List ℕ → List ℕ → List ℕ → V → Type 0)
+    (Others : List ℕ → List ℕ → List ℕ → W → Type 0) (Stands Stays : List ℕ → List ℕ → List ℕ → Type 0)
+    → ((came old new : List ℕ) → Stands came old new → Stays came old new) → (trace : Reading) (out : Writing) (e : AuditFault)
+    → Run says Follows Stands trace out (Err e) → Run says Others Stays trace out (Err e)
+stopped_alike says Follows Others Stands Stays map trace out e run = record {
   follows = tt;
-  headline = λ is. absurd (cc (is));
-  made = tt;
-  stands = stands;
-  trace_refused = λ f is. absurd (no_trace e f kinds (cc (is)));
-  trace_cut = λ f is _. absurd (no_trace e f kinds (cc (is)));
-  most = fine.most;
-  known = fine.known;
-  held = held;
-  devices = blames e kinds failed;
+  stands = (run.stands.0, run.stands.1, map run.stands.0 out.before.taken out.after.taken run.stands.2);
+  trace_refused = λ f is. run.trace_refused f (cc (is));
+  trace_cut = λ f is by. run.trace_cut f (cc (is)) by;
+  most = run.most;
+  known = run.known;
+  held = run.held;
+  devices = run.devices;
   kept = tt;
-  unfailed = λ none. (fine.kept, unfailed (not_write e none));
+  unfailed = run.unfailed;
 }
-  where
-    no_trace : (e : AuditFault) (f : TraceFault) → IsOneOf (kind.write ∷ kind.memory ∷ []) e → e ≡ faults.Trace f → ⊥
-    no_trace (faults.Trace g) f is same = absurd (cc (is.0))
-    no_trace (faults.Evidence g) f is same = cc
-    no_trace (faults.Write n) f is same = cc
-    no_trace faults.OutOfMemory f is same = cc
-    no_trace faults.Limits f is same = cc
-    no_trace faults.Joined f is same = cc
-    no_trace faults.Input f is same = cc
-
-    not_write : (e : AuditFault) → BlamesNoDevice e → IsNotWrite e
-    not_write (faults.Trace f) none = tt
-    not_write (faults.Evidence f) none = tt
-    not_write (faults.Write n) none = none
-    not_write faults.OutOfMemory none = tt
-    not_write faults.Limits none = tt
-    not_write faults.Joined none = tt
-    not_write faults.Input none = tt
-
-    blames : (e : AuditFault) → IsOneOf (kind.write ∷ kind.memory ∷ []) e → (IsWrite e → WriterFailed out)
-        → BlamesOnly ⊥ (ReaderFailed trace) ⊥ (WriterFailed out) e
-    blames (faults.Trace f) is failed = absurd (cc (is.0))
-    blames (faults.Evidence f) is failed = absurd (cc (is.0))
-    blames (faults.Write n) is failed = failed tt
-    blames faults.OutOfMemory is failed = tt
-    blames faults.Limits is failed = tt
-    blames faults.Joined is failed = tt
-    blames faults.Input is failed = absurd (cc (is.0))
-
--- a line was refused, or the reader failed
-pub refused : (trace : Reading) (out : Writing) (e : AuditFault) → TraceRead trace (Err e)
-    → OfBytes trace (λ came. WentOut came out.before.taken out.after.taken) → StandsBehind out → WriterNeverFailed out
-    → Followed trace out (Err e)
-refused trace out e read stands held kept = record {
-  follows = tt;
-  headline = λ is. absurd (cc (is));
-  made = tt;
-  stands = stands;
-  trace_refused = λ f is. read.refused f (cc (is));
-  trace_cut = λ f is by. read.cut f (cc (is)) by;
-  most = read.most;
-  known = read.known;
-  held = held;
-  devices = blames e read.kinds (λ f is by. read.failed f (ap (λ (x : AuditFault). Err x) is) by);
-  kept = tt;
-  unfailed = λ none. (read.unfailed none, kept);
-}
-  where
-    blames : (e : AuditFault) → IsOneOf (kind.trace ∷ kind.memory ∷ []) e
-        → ((f : TraceFault) → e ≡ faults.Trace f → f.cause ≡ causes.Read → ReaderFailed trace)
-        → BlamesOnly ⊥ (ReaderFailed trace) ⊥ (WriterFailed out) e
-    blames (faults.Trace f) is failed = failed f refl
-    blames (faults.Evidence f) is failed = absurd (cc (is.0))
-    blames (faults.Write n) is failed = absurd (cc (is.0))
-    blames faults.OutOfMemory is failed = tt
-    blames faults.Limits is failed = tt
-    blames faults.Joined is failed = tt
-    blames faults.Input is failed = absurd (cc (is.0))
 
 -- a writer that never failed before the last text
 pub failed_at_last : (one two three : Writer) → WriterNeverFailed (record { before = one; after = two })
@@ -574,42 +569,50 @@ pub held_on : (one two three : Writer) → StandsBehind (record { before = one; 
 held_on one two three before then =
     behind-trans (λ (w : Writer). w.taken) (λ (w : Writer). w.held) one two three before then
 
--- ---- the runs's ends
+-- ---- the lines' ends
 
 module _ (trace : Reading) (one two three : Writer) (kept : WriterNeverFailed (record { before = one; after = two }))
-    (held : StandsBehind (record { before = one; after = two })) where
+    (held : StandsBehind (record { before = one; after = two })) (says : Says) (s : KeptValue)
+    (means : IsSaidBehind s says) (fits : next_line s.log ≤ s.lines + 1)
+    (first base : ℕ) (low : first ≤ s.lines + 1) (f g : Follower) (k : KeptValue) where
   -- telling was stopped
-  pub tell_stopped : (e : AuditFault) (used : List ℕ) (f g : Follower) (t : TraceValue) → IsFine trace
-      → trace_of true used ≡ Ok t → (line : Option ℕ) → AreLines used line → IsRunSoFar used one.taken two.taken f
-      → Told (λ text (l : TraceValue). (l ≡ t) × TellsPiece t line f g text) (record { before = two; after = three }) (Err e)
+  pub tell_stopped : (e : AuditFault) (used : List ℕ) → IsFine trace → says true used ≡ Ok k.log → (line : Option ℕ)
+      → AreLines s.lines used line → IsRunSoFar says first base used one.taken two.taken f
+      → Told (λ text (l : KeptValue). (l ≡ k) × TellsPiece k.log line f g text) (record { before = two; after = three }) (Err e)
       → (came rest : List ℕ) → trace.after.given ≡ trace.before.given ++ came → came ≡ used ++ rest
-      → Followed trace (record { before = one; after = three }) (Err e)
-  tell_stopped e used f g t fine said line lines run told came rest gave is =
-      stopped trace (record { before = one; after = three }) e told.kinds fine
-      (came, gave, tell_went used one.taken f g t said line lines (record { before = two; after = three }) run e told came rest is)
+      → {V : Type 0} (Follows : List ℕ → List ℕ → List ℕ → V → Type 0)
+      → Run says Follows (WentOut says (IsToldFrom says first base) (λ a p e v. ⊥)) trace (record { before = one; after = three }) (Err e)
+  tell_stopped e used fine said line lines run told came rest gave is Follows =
+      stopped says Follows (WentOut says (IsToldFrom says first base) (λ a p e v. ⊥)) trace (record { before = one; after = three })
+      e told.kinds fine (
+        came,
+        gave,
+        tell_went says s means fits first base low used one.taken f g k said line lines
+            (record { before = two; after = three }) run came rest is e told,
+      )
       (held_on one two three held told.held)
       (λ writes. failed_at_last one two three kept (told.failed writes))
       (λ others. never_failed one two three kept (told.unfailed others))
 
-  -- the end was told, or that was stopped
-  pub ended : (result : Result Verdict AuditFault) (came : List ℕ) (f g : Follower) (t : TraceValue) → IsFine trace
-      → OfWhole trace (λ a. a ≡ came) → trace_of true came ≡ Ok t → IsTextOf came one.taken two.taken f t
-      → ((evidence : List (Option (List StepValue))) → findings_of t evidence ≡ [] → IsRightAndFresh t)
-      → Told (λ text v. TellsRest t f g text × (v ≡ verdict_of g.told.items)) (record { before = two; after = three }) result
-      → Followed trace (record { before = one; after = three }) result
-  ended (Ok v) came f g t fine whole said so_far law told =
-      let says = told.text.1 in record {
-        follows = of_whole-map (λ (s : Reader). s.given) (λ (s : Reader). s.ends) trace.before trace.after (λ a. a ≡ came)
-            (λ a. Follows a one.taken three.taken v) (λ a is. subst (λ (l : List ℕ). Follows l one.taken three.taken v) (sym is)
-            (end_went came one.taken two.taken f g t so_far said told.text.0 says.0 v says.1 three.taken told.text.2)) whole;
-        headline = λ clean. of_whole-map (λ (s : Reader). s.given) (λ (s : Reader). s.ends) trace.before trace.after
-            (λ a. a ≡ came) IsTraceRightAndFresh (λ a is. subst IsTraceRightAndFresh (sym is)
-            (end_clean came one.taken two.taken f g t so_far said told.text.0 says.0 (cc (clean) ∙ says.1) law)) whole;
-        made = of_whole-map (λ (s : Reader). s.given) (λ (s : Reader). s.ends) trace.before trace.after (λ a. a ≡ came)
-            SpeaksOfMade (λ a is. subst SpeaksOfMade (sym is) (speaks_of_made came t said)) whole;
+  -- all lines were taken and told
+  pub lines_followed : (used : List ℕ) (v : IndexValue) (n : ℕ) (l : KeptValue) → IsFine trace → says true used ≡ Ok k.log
+      → OfWhole trace (λ a. a ≡ used) → IsRunSoFar says first base used one.taken two.taken f
+      → Told (λ text (l : KeptValue). (l ≡ k) × TellsPiece k.log None f g text) (record { before = two; after = three }) (Ok l)
+      → IsGrowing k.log.declarations k.log.commits v
+      → Run says (TellsLines says g) (WentOut says (IsToldFrom says first base) (λ a p e v. ⊥)) trace
+      (record { before = one; after = three }) (Ok (l, v, n))
+  lines_followed used v n l fine said whole run told growing =
+      let same : l ≡ k = told.text.1.0 in record {
+        follows = of_whole-map (λ (r : Reader). r.given) (λ (r : Reader). r.ends) trace.before trace.after (λ a. a ≡ used)
+            (λ a. TellsLines says g a one.taken three.taken (l, v, n)) (λ a is.
+            subst (λ (x : List ℕ). TellsLines says g x one.taken three.taken (l, v, n)) (sym is)
+            (lines_told says s means fits first base low used one.taken two.taken f g run k.log said told.text.0 None
+            (no_lines s.lines used) told.text.1.1 l v n (ap (λ (x : KeptValue). x.log) same)
+            (subst (λ (x : KeptValue). IsGrowing x.log.declarations x.log.commits v) (sym same) growing)
+            three.taken told.text.2)) whole;
         stands = tt;
-        trace_refused = λ f is. absurd (cc (is));
-        trace_cut = λ f is. absurd (cc (is));
+        trace_refused = λ x is. absurd (cc (is));
+        trace_cut = λ x is. absurd (cc (is));
         most = fine.most;
         known = fine.known;
         held = held_on one two three held told.held;
@@ -617,25 +620,3 @@ module _ (trace : Reading) (one two three : Writer) (kept : WriterNeverFailed (r
         kept = (fine.kept, never_failed one two three kept told.kept);
         unfailed = tt;
       }
-  ended (Err e) came f g t fine whole said so_far law told =
-      stopped trace (record { before = one; after = three }) e told.kinds fine
-      (whole.1.0, whole.1.1, subst (λ (l : List ℕ). WentOut l one.taken three.taken) (sym whole.1.2) (by_fault e told))
-      (held_on one two three held told.held)
-      (λ writes. failed_at_last one two three kept (told.failed writes))
-      (λ others. never_failed one two three kept (told.unfailed others))
-    where
-      nothing : three.taken ≡ two.taken → WentOut came one.taken three.taken
-      nothing is = subst (WentOut came one.taken) (sym is)
-          (nothing_went came one.taken two.taken f so_far.text came [] (sym (append-nil came)))
-
-      by_fault : (e : AuditFault) → Told (λ text v. TellsRest t f g text × (v ≡ verdict_of g.told.items))
-          (record { before = two; after = three }) (Err e) → WentOut came one.taken three.taken
-      by_fault (faults.Write n) told =
-          let h = told.write n refl in
-          end_part came one.taken two.taken f g t so_far said h.1 h.2.0 h.0 h.2.1 three.taken n h.3.1
-      by_fault (faults.Trace x) told = nothing (told.unwritten tt)
-      by_fault (faults.Evidence x) told = nothing (told.unwritten tt)
-      by_fault faults.OutOfMemory told = nothing (told.unwritten tt)
-      by_fault faults.Limits told = nothing (told.unwritten tt)
-      by_fault faults.Joined told = nothing (told.unwritten tt)
-      by_fault faults.Input told = nothing (told.unwritten tt)

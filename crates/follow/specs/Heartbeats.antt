@@ -1,9 +1,10 @@
 -- What a heartbeat says of a log.
-use Rattle.std.specs.Prelude.{◌≡◌, ℕ, ◌<◌, ◌≤◌, List, [], ◌∷◌, ◌++◌, All, length, slice_get, Option, Some}
+use Rattle.std.specs.Prelude.{◌≡◌, ℕ, ◌<◌, ◌≤◌, List, ◌∷◌, ◌++◌, All, length, slice_get, Option, Some}
 use Rattle.trace_lines.specs.Values.{EntryValue, TraceValue}
 use Rattle.findings.specs.declared.finding.Finding.{Finding}
 use Rattle.windows.specs.Growth.{IsSettled}
-use Rattle.monitor.specs.Standing.{open_entries}
+use Rattle.monitor.specs.Standing.{IsPast, open_entries}
+use Rattle.monitor.specs.declared.monitor.Monitor.{Monitor}
 use Rattle.follow.specs.Pieces.{Piece, told_in}
 use Rattle.follow.specs.declared.heartbeat.Heartbeat.{Heartbeat}
 
@@ -34,7 +35,25 @@ pub record IsTrue (t : TraceValue) (before behind : List Finding) (h : Heartbeat
   pub findings : h.findings ≡ length before
   pub silent : All (λ f. h.line < f.line) behind
 
--- so is each heartbeat among some pieces, behind which the rest was told
+-- each heartbeat among some pieces, with the pieces before it and behind it
+abbrev pub EachBeat : (List Piece → List Piece → Piece → Heartbeat → Type 0) → List Piece → Type 0
+EachBeat P pieces = (earlier later : List Piece) (p : Piece) (h : Heartbeat) → pieces ≡ earlier ++ p ∷ later
+    → p.heartbeat ≡ Some h → P earlier later p h
+
+-- each is true of a log, where behind the pieces the rest was told
 abbrev pub AreTrue : TraceValue → List Piece → List Finding → Type 0
-AreTrue t pieces rest = (earlier later : List Piece) (p : Piece) (h : Heartbeat) → pieces ≡ earlier ++ p ∷ later
-    → p.heartbeat ≡ Some h → IsTrue t (told_in earlier ++ p.told) (told_in later ++ rest) h
+AreTrue t pieces rest =
+    EachBeat (λ earlier later p h. IsTrue t (told_in earlier ++ p.told) (told_in later ++ rest) h) pieces
+
+-- what was told behind each is on none of the entries up to its line, and so many findings were told before
+abbrev pub AreSilent : List Piece → Type 0
+AreSilent = EachBeat (λ earlier later p h. (h.findings ≡ length (told_in earlier ++ p.told))
+    × All (λ f. h.line < f.line) (told_in later))
+
+-- up to the line of each all entries of a log are settled
+abbrev pub AreThrough : TraceValue → List Piece → Type 0
+AreThrough t = EachBeat (λ earlier later p h. IsThrough t h.line h.entries)
+
+-- and a monitor is past it
+abbrev pub ArePast : TraceValue → Monitor → List Piece → Type 0
+ArePast t m = EachBeat (λ earlier later p h. IsPast t m h.line)

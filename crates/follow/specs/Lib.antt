@@ -1,4 +1,9 @@
 pub mod Following
+pub mod Handing
 pub mod Heartbeats
+pub mod Lines
 pub mod Pieces
+pub mod Reading
+pub mod Running
 pub mod SoFar
+pub mod Told

@@ -1,16 +1,17 @@
 //! What is told of a log that grows, as the lines of the report.
 
 ghost use Rattle.std.specs.Prelude.{◌≡◌, ◌≤◌, [], length, IfOk, IfSome, string_bytes};
-ghost use Rattle.trace_lines.specs.Values.{TraceValue};
+ghost use Rattle.trace_lines.specs.Values.{TraceValue, next_line};
 ghost use Rattle.audit.specs.Audit.{verdict_of};
 ghost use Rattle.monitor.specs.Standing.{IsAtEnd};
 ghost use Rattle.follow.specs.Heartbeats.{AreSettledTo, Beats, IsThrough};
-ghost use Rattle.follow.specs.SoFar.{IsFollowed, TellsPiece, TellsRest};
+ghost use Rattle.follow.specs.SoFar.{IsFollowed, TellsFromSame, TellsPiece, TellsRest};
 
+use crate::asking::push_asked;
 use crate::heartbeat::{Heartbeat, push_heartbeat, settled_from};
 use audit::{MakingJudge, PausedJudge, Verdict};
 use findings::{Finding, push_last_lines, push_lines};
-use monitor::{Monitor, tell_further};
+use monitor::{Monitor, stand_behind, tell_further};
 use std::alloc::{AllocError, Global};
 use std::mem::replace;
 use trace_lines::Trace;
@@ -21,6 +22,10 @@ use trace_lines::laws::{entries_rise, stand_in_order, valid_strata, versions_iss
 pub struct Follower {
     pub alloc: Global,
     pub monitor: Monitor,
+    /// The line from which on it tells: of earlier ones another follower told.
+    pub first: u64,
+    /// It tells of entries that ask at this timestamp or above: below it the log does not know the store.
+    pub base: u64,
     /// What was told, in the order of telling.
     pub told: Vec<Finding>,
     /// How many of the first entries are known to be settled.
@@ -36,10 +41,13 @@ impl Follower {
     pub fn new(alloc: Global) -> Follower
         ensures followed { (t : TraceValue) → IsFollowed t result }
         ensures told { result.told.items ≡ [] }
+        ensures all { (result.first ≡ 0) × (result.base ≡ 0) }
     {
         Follower {
             alloc,
             monitor: Monitor::new(alloc),
+            first: 0,
+            base: 0,
             told: Vec::new(alloc),
             settled: 0,
             beaten: 0,
@@ -47,11 +55,44 @@ impl Follower {
         }
     }
 
+    /// All lines of a log were taken, and nothing was told: it tells from a line behind them on, of entries that ask at
+    /// the base or above. It is refused only where memory runs out.
+    pub fn behind(
+        alloc: Global,
+        trace: &Trace,
+        first: u64,
+        base: u64,
+    ) -> Result<Follower, AllocError>
+        requires { next_line trace.now ≤ first }
+        ensures followed { IfOk result (IsFollowed trace.now) }
+        ensures all { IfOk result (λ f. IsAtEnd trace.now f.monitor) }
+        ensures told { IfOk result (λ f. f.told.items ≡ []) }
+        ensures from { IfOk result (λ f. (f.first ≡ first) × (f.base ≡ base)) }
+    {
+        stand_in_order(trace);
+        entries_rise(trace);
+        versions_issued_once(trace);
+        valid_strata(trace);
+        let monitor = stand_behind(alloc, trace)?;
+        let beaten = trace.len().saturating_sub(monitor.waiting.len());
+        Ok(Follower {
+            alloc,
+            monitor,
+            first,
+            base,
+            told: Vec::new(alloc),
+            settled: 0,
+            beaten,
+            judge: PausedJudge::new(alloc),
+        })
+    }
+
     /// The judge, who is to be put back.
     fn judge<'t>(&mut self, trace: &'t Trace) -> MakingJudge<'t>
         ensures trace { result.maker ≡ trace.entry.now }
         ensures same { (self.new.monitor ≡ self.old.monitor) × (self.new.told ≡ self.old.told)
             × (self.new.settled ≡ self.old.settled) × (self.new.beaten ≡ self.old.beaten) }
+        ensures from { TellsFromSame self.old self.new }
     {
         let judge = replace(&mut self.judge, PausedJudge::new(self.alloc));
         judge.resume(self.alloc, trace)
@@ -64,6 +105,7 @@ impl Follower {
         requires all { IsAtEnd trace.now self.old.monitor }
         ensures followed { IsFollowed trace.now self.new }
         ensures same { (self.new.monitor ≡ self.old.monitor) × (self.new.told ≡ self.old.told) }
+        ensures from { TellsFromSame self.old self.new }
         ensures beats { IfSome result (Beats trace.now self.old.told.items line) }
     {
         let line = line?;
@@ -89,10 +131,15 @@ impl Follower {
         ensures { IfOk result (λ s. TellsPiece trace.now line self.old self.new (string_bytes s)) }
     {
         stand_in_order(trace);
+        entries_rise(trace);
+        versions_issued_once(trace);
+        valid_strata(trace);
         let before = self.told.len();
+        let mut found = Vec::new(self.alloc);
         let mut judge = self.judge(trace);
-        tell_further(trace, &mut self.monitor, &mut judge, &mut self.told)?;
+        tell_further(trace, &mut self.monitor, &mut judge, &mut found)?;
         self.judge = judge.pause();
+        push_asked(trace, self.base, &found, &mut self.told)?;
         let mut text = String::new(self.alloc);
         push_lines(&self.told[before..], &mut text)?;
         push_heartbeat(self.heartbeat(trace, line), &mut text)?;
@@ -111,8 +158,10 @@ impl Follower {
         versions_issued_once(trace);
         valid_strata(trace);
         let before = self.told.len();
+        let mut found = Vec::new(self.alloc);
         let mut judge = self.judge(trace);
-        self.monitor.end(trace, &mut judge, &mut self.told)?;
+        self.monitor.end(trace, &mut judge, &mut found)?;
+        push_asked(trace, self.base, &found, &mut self.told)?;
         let mut text = String::new(self.alloc);
         push_lines(&self.told[before..], &mut text)?;
         push_last_lines(&self.told, trace.len(), &mut text)?;

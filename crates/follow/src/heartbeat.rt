@@ -36,7 +36,8 @@ pub(crate) fn push_heartbeat(
     }
 }
 
-fn push_number(number: u64, words: &str, text: &mut String) -> Result<(), AllocError>
+/// Appends a number, and words behind it. It is refused only where memory runs out.
+pub(crate) fn push_number(number: u64, words: &str, text: &mut String) -> Result<(), AllocError>
     ensures { OnOk result (string_bytes text.new ≡ string_bytes text.old ++ number_text number words.now) }
 {
     write!(text, "{number}{words}")?;

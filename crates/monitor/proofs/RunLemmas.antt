@@ -1,9 +1,9 @@
 -- What a monitor tells of a trace, from its first line to its end.
-use Rattle.std.proofs.Common.{◌≡◌, ℕ, zero, suc, ◌+◌, ◌<◌, ◌≤◌, inl, inr, max, Bool, true, false, cond, List, [], ◌∷◌, ◌++◌, length, Option, Some, None, refl, sym, ◌∙◌, ap, subst, arith, append_assoc, append-nil}
+use Rattle.std.proofs.Common.{◌≡◌, ℕ, zero, suc, ◌+◌, ◌<◌, ◌≤◌, inl, inr, max, Bool, true, false, cond, leb, List, [], ◌∷◌, ◌++◌, length, Option, Some, None, refl, sym, ◌∙◌, ap, subst, arith, append_assoc, append-nil}
 use Rattle.std.specs.Prelude.{slice_get, is_none}
 use Rattle.std.specs.List.{AllZip}
 use Rattle.std.specs.List.Sorted.{IsStrictlyIncreasing}
-use Rattle.std.proofs.lemmas.Bool.{cases_lt, eqb-true}
+use Rattle.std.proofs.lemmas.Bool.{cases_lt, eqb-true, le-leb, leb-true, lt-leb}
 use Rattle.std.proofs.lemmas.Option.{slice_get_within}
 use Rattle.trace_lines.specs.Placed.{AreInPlace, HasPlacedCommits}
 use Rattle.trace_lines.specs.Values.{EntryValue, TraceValue, entry_lines, next_line}
@@ -14,9 +14,9 @@ use Rattle.findings.specs.declared.finding.Finding.{Finding}
 use Rattle.follow_laws.specs.Begun.{IsOfBytes}
 use Rattle.follow_laws.specs.Told.{is_at, left_over, settling_line, told_before, told_from, told_on}
 use Rattle.follow_laws.proofs.OnceLemmas.{once_law, own_line}
-use Rattle.monitor.specs.SoFar.{IsTold, IsUpTo}
+use Rattle.monitor.specs.SoFar.{IsTold, IsUpTo, told_between}
 use Rattle.monitor.specs.Standing.{IsAtEnd, IsCommitNext, Takes, line_of}
-use Rattle.monitor.specs.Telling.{Tells, TellsLeft, told_of}
+use Rattle.monitor.specs.Telling.{AreAllowedAt, TellsLeft, told_of}
 use Rattle.monitor.specs.Whole.{TellsAll}
 use Rattle.monitor.specs.declared.monitor.Monitor.{Monitor}
 use Rattle.monitor.proofs.GrowthLemmas.{below_last}
@@ -112,19 +112,45 @@ module _ (t : TraceValue) (test : Option ℕ → Bool) (one other : List (Option
       picked t test one other 0 t.entries i e at
       ∙ ap (λ (b : Bool). cond b (steps_of other (0 + i)) (steps_of one (0 + i))) is ∙ ap (steps_of one) here
 
-same_before : (t : TraceValue) (one other : List (Option (List StepValue))) (k : ℕ)
-    → ((i : ℕ) (e : EntryValue) → slice_get t.entries i ≡ Some e → (l : ℕ) → settling_line t e ≡ Some l → l < k
-    → steps_of one i ≡ steps_of other i) → told_before t one k ≡ told_before t other k
-same_before t one other zero same = refl
-same_before t one other (suc k) same =
-    ap (λ (fs : List Finding). fs ++ told_on t one k) (same_before t one other k (λ i e at l is lt. same i e at l is (omega (arith, lt))))
-    ∙ ap (λ (fs : List Finding). told_before t other k ++ fs) (same_from t (is_at k) one other 0 t.entries (λ j e at is.
-    let here : 0 + j ≡ j = omega arith in
-    ap (steps_of one) here ∙ same j e at k (line_at k (settling_line t e) is) (omega arith) ∙ sym (ap (steps_of other) here)))
+-- ---- from a line on
+
+pub from_first : (t : TraceValue) (given : List (Option (List StepValue))) (k : ℕ)
+    → told_between t given 0 k ≡ told_before t given k
+from_first t given zero = refl
+from_first t given (suc k) =
+    ap (λ (b : Bool). told_between t given 0 k ++ cond b (told_on t given k) []) (le-leb 0 k (omega arith))
+    ∙ ap (λ (fs : List Finding). fs ++ told_on t given k) (from_first t given k)
+
+-- before that line there is none
+pub none_between : (t : TraceValue) (given : List (Option (List StepValue))) (n k : ℕ) → k ≤ n → told_between t given n k ≡ []
+none_between t given n zero le = refl
+none_between t given n (suc k) le =
+    ap (λ (b : Bool). told_between t given n k ++ cond b (told_on t given k) []) (lt-leb n k (omega (arith, le)))
+    ∙ append-nil (told_between t given n k) ∙ none_between t given n k (omega (arith, le))
+
+nothing_either : (b : Bool) → ◌≡◌ {A = List Finding} (cond b [] []) []
+nothing_either true = refl
+nothing_either false = refl
+
+same_between : (t : TraceValue) (one other : List (Option (List StepValue))) (n k : ℕ)
+    → ((i : ℕ) (e : EntryValue) → slice_get t.entries i ≡ Some e → (l : ℕ) → settling_line t e ≡ Some l → n ≤ l → l < k
+    → steps_of one i ≡ steps_of other i) → told_between t one n k ≡ told_between t other n k
+same_between t one other n zero same = refl
+same_between t one other n (suc k) same =
+    ap (λ (fs : List Finding). fs ++ cond (leb n k) (told_on t one k) [])
+    (same_between t one other n k (λ i e at l is from lt. same i e at l is from (omega (arith, lt))))
+    ∙ ap (λ (fs : List Finding). told_between t other n k ++ fs) (by_test (leb n k) refl)
   where
     line_at : (k : ℕ) (o : Option ℕ) → is_at k o ≡ true → o ≡ Some k
     line_at k None is = absurd cc
     line_at k (Some l) is = ap Some (eqb-true l k is)
+
+    by_test : (b : Bool) → leb n k ≡ b → cond b (told_on t one k) [] ≡ cond b (told_on t other k) []
+    by_test false is = refl
+    by_test true is = same_from t (is_at k) one other 0 t.entries (λ j e at here.
+        let z : 0 + j ≡ j = omega arith in
+        ap (steps_of one) z ∙ same j e at k (line_at k (settling_line t e) here) (leb-true n k is) (omega arith)
+        ∙ sym (ap (steps_of other) z))
 
 module _ (t : TraceValue) (placed : AreInPlace t) (rising : IsStrictlyIncreasing (entry_lines t.entries)) where
   commits : HasPlacedCommits t
@@ -153,17 +179,19 @@ module _ (t : TraceValue) (placed : AreInPlace t) (rising : IsStrictlyIncreasing
   }
 
   -- lines at which nothing was taken tell nothing
-  pub quiet : (m : Monitor) (k n : ℕ) → IsUpTo t m k → IsUpTo t m n → k ≤ n → (given : List (Option (List StepValue)))
-      → told_before t given n ≡ told_before t given k
-  quiet m k zero low high le given = ap (told_before t given) (let z : zero ≡ k = omega (arith, le) in z)
-  quiet m k (suc n) low high le given = elim (cases_lt k (suc n)) [
-    | inr ge ↦ ap (told_before t given) (let z : suc n ≡ k = omega (arith, le, ge) in z)
+  pub quiet : (from : ℕ) (m : Monitor) (k n : ℕ) → IsUpTo t m k → IsUpTo t m n → k ≤ n
+      → (given : List (Option (List StepValue))) → told_between t given from n ≡ told_between t given from k
+  quiet from m k zero low high le given = ap (told_between t given from) (let z : zero ≡ k = omega (arith, le) in z)
+  quiet from m k (suc n) low high le given = elim (cases_lt k (suc n)) [
+    | inr ge ↦ ap (told_between t given from) (let z : suc n ≡ k = omega (arith, le, ge) in z)
     | inl lt ↦
         let none : told_on t given n ≡ [] = none_told t (is_at n) given 0 t.entries (λ j e at. silent_off t placed rising n (0 + j) e
         (subst (λ (i : ℕ). slice_get t.entries i ≡ Some e) (let z : j ≡ 0 + j = omega arith in z) at)
         (no_entry m k n low high lt j e at) (no_commit m k n low high lt)) in
-        ap (λ (fs : List Finding). told_before t given n ++ fs) none ∙ append-nil (told_before t given n)
-        ∙ quiet m k n low (lowered m k n low high lt) (omega (arith, lt)) given
+        ap (λ (fs : List Finding). told_between t given from n ++ cond (leb from n) fs []) none
+        ∙ ap (λ (fs : List Finding). told_between t given from n ++ fs) (nothing_either (leb from n))
+        ∙ append-nil (told_between t given from n)
+        ∙ quiet from m k n low (lowered m k n low high lt) (omega (arith, lt)) given
   ]
 
   -- ---- a line is taken
@@ -253,7 +281,7 @@ module _ (t : TraceValue) (placed : AreInPlace t) (rising : IsStrictlyIncreasing
   ]
 
   -- where all was taken, that stands before the number behind the last line
-  to_last : (m : Monitor) → IsOfBytes t → IsAtEnd t m → IsUpTo t m (next_line t)
+  pub to_last : (m : Monitor) → IsOfBytes t → IsAtEnd t m → IsUpTo t m (next_line t)
   to_last m good ended = record {
     entries_before = λ i e at taken. let lt = own_line t good i e at in omega (arith, lt);
     entries_from = λ i e at left.
@@ -265,9 +293,10 @@ module _ (t : TraceValue) (placed : AreInPlace t) (rising : IsStrictlyIncreasing
   }
 
   module _ (Allows : TraceValue → EntryValue → Option (List StepValue) → Type 0) where
-    pub told_first : (m : Monitor) → m.entries ≡ 0 → m.commits ≡ 0 → (old : List Finding) → IsTold Allows t m old old
+    pub told_first : (m : Monitor) → m.entries ≡ 0 → m.commits ≡ 0 → (old : List Finding) → IsTold Allows 0 t m old old
     told_first m entries commits old = record {
       line = 0;
+      from = omega arith;
       given = [];
       up_to = record {
         entries_before = λ i e at lt. absurd (omega (arith, lt, entries));
@@ -275,44 +304,49 @@ module _ (t : TraceValue) (placed : AreInPlace t) (rising : IsStrictlyIncreasing
         commits_before = λ c inside lt. absurd (omega (arith, lt, commits));
         commits_from = λ c inside le. omega arith;
       };
-      allowed = λ i e at l is lt. absurd (omega (arith, lt));
+      allowed = λ i e at l is from lt. absurd (omega (arith, lt));
       told = sym (append-nil old);
     }
 
-    pub told_further : (m n : Monitor) (l : ℕ) (old mid new : List Finding) → IsTold Allows t m old mid → Takes t m n l
-        → Tells Allows t l mid new → IsTold Allows t n old new
-    told_further m n l old mid new so_far takes (further, allowed, more) =
+    pub told_further : (from : ℕ) (m n : Monitor) (l : ℕ) (old mid : List Finding) → IsTold Allows from t m old mid
+        → Takes t m n l → (further : List (Option (List StepValue))) → AreAllowedAt Allows t (is_at l) further
+        → IsTold Allows from t n old (mid ++ told_on t further l)
+    told_further from m n l old mid so_far takes further allowed =
         let k = so_far.line in
         let up = raised m n k l so_far.up_to takes in
-        let before : told_before t (both t (is_at l) so_far.given further) l ≡ told_before t so_far.given k =
-        quiet m k l so_far.up_to up.1 up.0 (both t (is_at l) so_far.given further)
-        ∙ same_before t (both t (is_at l) so_far.given further) so_far.given k (λ i e at s is lt.
+        let picked = both t (is_at l) so_far.given further in
+        let before : told_between t picked from l ≡ told_between t so_far.given from k =
+        quiet from m k l so_far.up_to up.1 up.0 picked
+        ∙ same_between t picked so_far.given from k (λ i e at s is from lt.
         let le = up.0 in
         picked_one t (is_at l) so_far.given further i e at (ap (is_at l) is ∙ not_at l s (λ same. omega (arith, same, lt, le)))) in
-        let here : told_on t (both t (is_at l) so_far.given further) l ≡ told_on t further l =
-        same_from t (is_at l) (both t (is_at l) so_far.given further) further 0 t.entries (λ j e at is.
+        let here : told_on t picked l ≡ told_on t further l =
+        same_from t (is_at l) picked further 0 t.entries (λ j e at is.
         let z : 0 + j ≡ j = omega arith in
-        ap (steps_of (both t (is_at l) so_far.given further)) z ∙ picked_other t (is_at l) so_far.given further j e at is ∙ sym (ap (steps_of further) z)) in
+        ap (steps_of picked) z ∙ picked_other t (is_at l) so_far.given further j e at is ∙ sym (ap (steps_of further) z)) in
+        let from_here : leb from l ≡ true = let low = so_far.from in let le = up.0 in le-leb from l (omega (arith, low, le)) in
         record {
           line = suc l;
-          given = both t (is_at l) so_far.given further;
+          from = let low = so_far.from in let le = up.0 in omega (arith, low, le);
+          given = picked;
           up_to = up.2;
-          allowed = λ i e at s is lt. elim (cases_lt s l) [
+          allowed = λ i e at s is from lt. elim (cases_lt s l) [
             | inl below ↦ subst (Allows t e) (sym (picked_one t (is_at l) so_far.given further i e at
                 (ap (is_at l) is ∙ not_at l s (λ same. omega (arith, same, below)))))
-                (so_far.allowed i e at s is (settled_apart m k l so_far.up_to up.1 i e at s is below))
+                (so_far.allowed i e at s is from (settled_apart m k l so_far.up_to up.1 i e at s is below))
             | inr ge ↦
                 let same : s ≡ l = omega (arith, lt, ge) in
                 let now : is_at l (settling_line t e) ≡ true = ap (is_at l) (is ∙ ap Some same) ∙ at_itself l in
                 subst (Allows t e) (sym (picked_other t (is_at l) so_far.given further i e at now)) (allowed i e at now)
           ];
-          told = more ∙ ap (λ (fs : List Finding). fs ++ told_on t further l) so_far.told
-              ∙ append_assoc old (told_before t so_far.given k) (told_on t further l)
+          told = ap (λ (fs : List Finding). fs ++ told_on t further l) so_far.told
+              ∙ append_assoc old (told_between t so_far.given from k) (told_on t further l)
               ∙ ap (λ (fs : List Finding). old ++ fs) (ap (λ (fs : List Finding). fs ++ told_on t further l) (sym before)
-              ∙ ap (λ (fs : List Finding). told_before t (both t (is_at l) so_far.given further) l ++ fs) (sym here));
+              ∙ ap (λ (fs : List Finding). told_between t picked from l ++ fs) (sym here)
+              ∙ ap (λ (b : Bool). told_between t picked from l ++ cond b (told_on t picked l) []) (sym from_here));
         }
 
-    pub told_all : (m : Monitor) (old mid new : List Finding) → IsOfBytes t → IsTold Allows t m old mid → IsAtEnd t m
+    pub told_all : (m : Monitor) (old mid new : List Finding) → IsOfBytes t → IsTold Allows 0 t m old mid → IsAtEnd t m
         → TellsLeft Allows t mid new → TellsAll Allows t old new
     told_all m old mid new good so_far ended (last, allowed, more) =
         let k = so_far.line in
@@ -326,9 +360,9 @@ module _ (t : TraceValue) (placed : AreInPlace t) (rising : IsStrictlyIncreasing
           commits_from = λ c inside left. absurd (omega (arith, inside, left, commits));
         } in
         let given = both t is_none so_far.given last in
-        let before : told_before t given n ≡ told_before t so_far.given k =
-        quiet m k n so_far.up_to high (omega arith) given
-        ∙ same_before t given so_far.given k (λ i e at s is lt. picked_one t is_none so_far.given last i e at (ap is_none is)) in
+        let before : told_between t given 0 n ≡ told_between t so_far.given 0 k =
+        quiet 0 m k n so_far.up_to high (omega arith) given
+        ∙ same_between t given so_far.given 0 k (λ i e at s is from lt. picked_one t is_none so_far.given last i e at (ap is_none is)) in
         let end : left_over t given ≡ left_over t last =
         same_from t is_none given last 0 t.entries (λ j e at is.
         let z : 0 + j ≡ j = omega arith in
@@ -337,10 +371,10 @@ module _ (t : TraceValue) (placed : AreInPlace t) (rising : IsStrictlyIncreasing
           allowed = all_picked (Allows t) t is_none so_far.given last 0 t.entries
               (λ i e at. by_line i e at (settling_line t e) refl);
           told = more ∙ ap (λ (fs : List Finding). fs ++ left_over t last) so_far.told
-              ∙ append_assoc old (told_before t so_far.given k) (left_over t last)
+              ∙ append_assoc old (told_between t so_far.given 0 k) (left_over t last)
               ∙ ap (λ (fs : List Finding). old ++ fs)
-              (ap (λ (fs : List Finding). fs ++ left_over t last) (sym before ∙ quiet m (next_line t) n (to_last m good ended) high
-              (omega arith) given)
+              (ap (λ (fs : List Finding). fs ++ left_over t last) (sym before ∙ quiet 0 m (next_line t) n (to_last m good ended) high
+              (omega arith) given ∙ from_first t given (next_line t))
               ∙ ap (λ (fs : List Finding). told_before t given (next_line t) ++ fs) (sym end));
           once = once_law t good given;
         }
@@ -352,7 +386,7 @@ module _ (t : TraceValue) (placed : AreInPlace t) (rising : IsStrictlyIncreasing
             subst (Allows t e) (sym (picked_other t is_none so_far.given last i e at now)) (allowed i e at now)
         by_line i e at (Some s) is =
             subst (Allows t e) (sym (picked_one t is_none so_far.given last i e at (ap is_none is)))
-            (so_far.allowed i e at s is (taken_all i e at s is))
+            (so_far.allowed i e at s is (omega arith) (taken_all i e at s is))
           where
             taken_all : (i : ℕ) (e : EntryValue) → slice_get t.entries i ≡ Some e → (s : ℕ) → settling_line t e ≡ Some s → s < so_far.line
             taken_all i e at s is = elim (settles_at_event t placed.commits e (placed_at t placed i e at) s is) [

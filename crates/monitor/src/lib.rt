@@ -12,8 +12,9 @@
 //! `left_over` says, by evidence that the judge allows for what is judged there, in the order of the entries: nothing
 //! twice, too early or of another line. By the laws of `follow_laws` what is told so is true of each longer log, and all
 //! that it tells of a trace is what is found on it, each finding once ([`tell_all`]). A monitor that stands in a log
-//! stands in each longer one ([`laws::stands_on`]), so it goes on as lines come: [`tell_further`] takes all that came. The
-//! crate `follow` does so with a judge that makes its evidence.
+//! stands in each longer one ([`laws::stands_on`]), so it goes on as lines come: [`tell_further`] takes all that came
+//! (`TellsMore`, `specs/SoFar.antt`). The crate `follow` does so with a judge that makes its evidence. A monitor may begin
+//! behind lines of which another told ([`stand_behind`]): what it tells is what is told from the next line on.
 //!
 //! ```text
 //! while let Some(line) = monitor.take(&trace, &mut judge, &mut told)? { .. }
@@ -24,9 +25,11 @@
 mod judge;
 pub mod laws;
 mod monitor;
+mod silence;
 mod waiting;
 mod whole;
 
 pub use judge::Judge;
 pub use monitor::Monitor;
+pub use silence::stand_behind;
 pub use whole::{tell_all, tell_further};

@@ -1,9 +1,8 @@
 //! What a monitor tells of all lines that a trace has.
 
-ghost use Rattle.std.specs.Prelude.{◌≡◌, ◌++◌, ℕ, List, OnOk};
-ghost use Rattle.findings.specs.declared.finding.Finding.{Finding};
-ghost use Rattle.monitor.specs.SoFar.{IsTold};
-ghost use Rattle.monitor.specs.Standing.{AreBehind, IsAtEnd, IsPast, Stands};
+ghost use Rattle.std.specs.Prelude.{◌≡◌, OnOk};
+ghost use Rattle.monitor.specs.SoFar.{TellsMore};
+ghost use Rattle.monitor.specs.Standing.{IsAtEnd, Stands};
 ghost use Rattle.monitor.specs.Whole.{TellsAll};
 
 use crate::judge::Judge;
@@ -26,12 +25,8 @@ pub fn tell_further<J: Judge>(
     ensures stands { OnOk result (Stands trace.now monitor.new) }
     ensures all { OnOk result (IsAtEnd trace.now monitor.new) }
     ensures judge { J.of judge.new ≡ J.of judge.old }
-    ensures told { OnOk result ((start : List Finding) → IsTold J.allows trace.now monitor.old start told.old.items
-        → IsTold J.allows trace.now monitor.new start told.new.items) }
-    // What is told is on no entry that was settled before; those stay so.
-    ensures behind { OnOk result ((more : List Finding) × (told.new.items ≡ told.old.items ++ more)
-        × AreBehind trace.now monitor.old more) }
-    ensures past { OnOk result ((n : ℕ) → IsPast trace.now monitor.old n → IsPast trace.now monitor.new n) }
+    ensures told { OnOk result
+        (TellsMore J.allows trace.now monitor.old monitor.new told.old.items told.new.items) }
 {
     stand_in_order(trace);
     entries_rise(trace);

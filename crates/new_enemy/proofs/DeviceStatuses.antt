@@ -70,22 +70,22 @@ module _ {F : Type 0} (left : Counted F → Option (List ℕ)) where
         record {
           flushed = λ _ not. absurd (true≢false (sym followed ∙ not));
           device = λ five. absurd (omega (arith, five, ends));
-          kept = λ _. (omega (arith, count, h.kept.0, unused.2), h.kept.1);
+          kept = λ _. (omega (arith, count, h.run.kept.0, unused.2), h.run.kept.1);
           unwritten = λ two. absurd (omega (arith, two, ends));
-          most = each (λ file. length (moved_by file) ≤ MAX_INPUT + CHUNK) (few_in_all a0 a1 unused.0 h.most);
-          held = h.held;
+          most = each (λ file. length (moved_by file) ≤ MAX_INPUT + CHUNK) (few_in_all a0 a1 unused.0 h.run.most);
+          held = h.run.held;
         }
     devices_of_follow (Err e) count each followed ends h =
         record {
           flushed = λ one. absurd (omega (arith, one, ends.0));
-          device = λ five _. failed_by e s _ _ _ _ ends.1 five h.devices (λ none. absurd none)
+          device = λ five _. failed_by e s _ _ _ _ ends.1 five h.run.devices (λ none. absurd none)
               (λ risen. inl (omega (arith, count, risen))) (λ none. absurd none) (λ failed. inr failed);
           kept = λ other.
-              let none = h.unfailed (of_no_device e s ends.1 other) in
+              let none = h.run.unfailed (of_no_device e s ends.1 other) in
               (omega (arith, count, none.0, unused.2), none.1);
           unwritten = λ _ _ not. absurd (true≢false (sym followed ∙ not));
-          most = each (λ file. length (moved_by file) ≤ MAX_INPUT + CHUNK) (few_in_all a0 a1 unused.0 h.most);
-          held = h.held;
+          most = each (λ file. length (moved_by file) ≤ MAX_INPUT + CHUNK) (few_in_all a0 a1 unused.0 h.run.most);
+          held = h.run.held;
         }
 
   -- of one that reads evidence too

@@ -157,7 +157,7 @@ module _ {F : Type 0} (left : Counted F → Option (List ℕ)) (a0 : Counted F) 
         whole a0 (file_of x) (λ a. Follows a out.before.taken out.after.taken v) unused
         (answer_of answer v
         (λ w. OfWhole (reads moved_by stops_of failures_of left a0 (file_of x))
-        (λ a. Follows a out.before.taken out.after.taken w)) is h.follows)
+        (λ a. Follows a out.before.taken out.after.taken w)) is h.run.follows)
 
     clean_following : s ≡ 0 → IsCleanFollowing (file_of x) out.before.taken out.after.taken
     clean_following zero =
@@ -181,7 +181,7 @@ module _ {F : Type 0} (left : Counted F → Option (List ℕ)) (a0 : Counted F) 
           dirty = dirty_following;
           refused = λ two. no_trace a0 (file_of x) unused.0 unused.1 answer s ends
               (kinds-more (kind.trace ∷ kind.write ∷ kind.memory ∷ [])
-              (kind.trace ∷ kind.write ∷ kind.memory ∷ kind.limits ∷ []) refl answer kinds) h.trace_refused two;
+              (kind.trace ∷ kind.write ∷ kind.memory ∷ kind.limits ∷ []) refl answer kinds) h.run.trace_refused two;
           used = λ three. never_limits answer kinds (ends_at_limits answer s ends three);
           devices = devices_of_follow left a0 (file_of x) unused out s (ran.Followed x) (λ is. absurd (cc (is))) answer refl
               (λ P p. p) refl ends h;

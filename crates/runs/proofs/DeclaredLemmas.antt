@@ -55,7 +55,7 @@ namespace_said t u d h =
     let whole : record t { declarations = one.0 } ≡ u = (let e = one.2 in cc) in
     ap result_ok made ∙ ap Some (same ∙ ap (λ (v : TraceValue). v.declarations) whole)
 
-passed : {A B C E : Type 0} (p : Result A E) (q : Result B E) (r : Result C E) (v u : TraceValue)
+pub passed : {A B C E : Type 0} (p : Result A E) (q : Result B E) (r : Result C E) (v u : TraceValue)
     → (p >>= λ a. q >>= λ b. r >>= λ c. Ok v) ≡ Ok u → v ≡ u
 passed (Ok a) (Ok b) (Ok c) v u h = cc
 passed (Ok a) (Ok b) (Err e) v u h = cc

@@ -11,6 +11,9 @@ use Rattle.namespaces.specs.Declaration.{Declaration}
 use Rattle.namespaces.specs.declared.fault.RulesFault.{RulesFault}
 use Rattle.json_lines.specs.Fields.{optional_number_at}
 use Rattle.json_lines.specs.Json.{of_json}
+use Rattle.refusals.specs.Refusals.{Unless}
+use Rattle.trace_lines.specs.Causes.{Gives, is_memory}
+use Rattle.trace_lines.specs.declared.cause.Cause.{Cause}
 use Rattle.trace_lines.specs.Traces.{commit_line, commit_of, declaration_line, entry_line, entry_of, of_kind, value_line, with_commit, with_entry}
 use Rattle.trace_lines.specs.Values.{TraceValue}
 use Rattle.trace_lines.specs.declared.cause.Cause.TheVariants as causes
@@ -18,6 +21,7 @@ use Rattle.trace_lines.specs.declared.entry.EntryKind.{EntryKind}
 use Rattle.trace_lines.specs.declared.entry.EntryKind.TheVariants.{Check, Content}
 use Rattle.trace_lines.proofs.Declared.{addition_made, change_made}
 use Rattle.runs.specs.DeclaredTexts.{declared_by, rules_from, rules_said}
+use Rattle.runs.specs.Kept.{kept_behind, kept_line}
 use Rattle.runs.proofs.DeclaredLemmas.{commit_keeps, declaration_said, entry_keeps, step}
 
 -- ---- a line declares, or what was declared stays
@@ -56,6 +60,21 @@ value_said n t u d h = by_kind (option_and_then as_str (get (codes "kind") d)) h
         by_word false false true y h = inr (entry_line_keeps Content n t u d h)
         by_word false false false true h = inr (entry_line_keeps Check n t u d h)
         by_word false false false false h = cc
+
+-- ---- a line by the numbers of the whole
+
+pub taken_kept : (lines n : ℕ) (t u : TraceValue) (r : Result (Unit {0}) Cause) (o : Option Data)
+    → Gives (λ _. u) r (of_json causes.NotJson (value_line (lines + n) t) o)
+    → Gives (λ _. record { lines = lines; log = u }) r (of_json causes.NotJson (kept_line n (record { lines = lines; log = t })) o)
+taken_kept lines n t u (Ok x) None h = cc
+taken_kept lines n t u (Ok x) (Some d) h = ap (kept_behind lines) h
+taken_kept lines n t u (Err e) o h = by_memory (is_memory e) o h
+  where
+    by_memory : (b : Bool) (o : Option Data) → Unless b (of_json causes.NotJson (value_line (lines + n) t) o ≡ Err e)
+        → Unless b (of_json causes.NotJson (kept_line n (record { lines = lines; log = t })) o ≡ Err e)
+    by_memory true o h = tt
+    by_memory false None h = cc
+    by_memory false (Some d) h = ap (kept_behind lines) h
 
 -- ---- a declaration more
 

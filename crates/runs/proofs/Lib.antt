@@ -1,7 +1,9 @@
+pub mod AlikeLemmas
 pub mod CommitLemmas
 pub mod DeclaredLemmas
 pub mod EntryLemmas
 pub mod KeptLemmas
+pub mod KeptReadLemmas
 pub mod LineLemmas
 pub mod StandingLemmas
 pub mod TouchLemmas

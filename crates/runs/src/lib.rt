@@ -10,7 +10,8 @@
 //! Callers may rely on this: what is begun is what the items make, one behind the other, and a refusal is that of the
 //! first item that does not fit, unless memory runs out. What is handed on stands in for the log, since it is begun
 //! and compared before it is given ([`is_carry_of`], whoever made the carry). That a log which has a base is always
-//! handed on is no contract.
+//! handed on is no contract. A log that a carry began grows by the lines of a run ([`KeptLog`]), and what is told of it
+//! there is what the whole log lets tell ([`laws::told_by_run`]).
 //!
 //! ```text
 //! let carry = hand_on(alloc, &log, &declared, lines, oldest, None)?;
@@ -24,6 +25,7 @@ mod declared;
 mod fault;
 mod handing;
 mod kept;
+pub mod laws;
 mod making;
 mod standing;
 

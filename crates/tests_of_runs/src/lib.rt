@@ -2,8 +2,11 @@
 //! beside those that have to; so a log of each kind of line is, and its carry is as the format says.
 #![tactic(auto)]
 
+#[cfg(test)]
+mod going_on;
+
 ghost use Rattle.std.specs.Prelude.{◌≤◌, ◌+◌, ◌^◌, OnOk, length};
-ghost use Rattle.trace_lines.specs.Values.{next_line};
+ghost use Rattle.runs.specs.Kept.{next_kept};
 
 use carry::{read_carry, write_carry};
 use json_lines::TakeJson;
@@ -38,9 +41,9 @@ const OLDER: &str =
 const NEXT: &str =
     "new_enemy carry 1\nlines 12\nbase 13\nno carry before\nitems 4\ndeclaration 1\n65 {\"kind\":\"namespace\",\"name\":\"doc\",\"relations\":[{\"name\":\"viewer\"}]}\ncontent 5\nyes\ngoal 18 doc:plan#viewer@12\nsnapshot 7\nzookie 19 z1-0000000000000007\nversion 2 v1\ndeclaration 6\n90 {\"kind\":\"namespace\",\"at\":8,\"name\":\"doc\",\"relations\":[{\"name\":\"viewer\"},{\"name\":\"editor\"}]}\ncommit 12\nat 13\nadds 4\n20 doc:readme#viewer@10\n18 doc:plan#viewer@12\n18 doc:plan#editor@12\n17 doc:new#viewer@14\nremoves 0\nsha256 7757cb8b7fb7595018cac16e7b372bc2fca6b751f3f9e1edc8c17fc2ea77908f\n";
 
-/// Takes the lines of a log from a number on.
+/// Takes the lines of a run from a number on.
 fn take_all(log: &mut KeptLog, from: u64, lines: &[&str]) -> Result<(), Fail>
-    requires next { next_line log.old ≤ from }
+    requires next { next_kept log.old ≤ from }
     requires few { from + length lines.now ≤ 2 ^ 32 }
 {
     for i in 0..lines.len() {
@@ -51,7 +54,7 @@ fn take_all(log: &mut KeptLog, from: u64, lines: &[&str]) -> Result<(), Fail>
 
 /// The text of the carry of a log with so many lines, whose base is up to a timestamp.
 fn carried(alloc: Global, log: KeptLog, lines: u64, oldest: u64) -> Result<String, Fail> {
-    let (log, declared) = log.into_parts();
+    let (_, log, declared) = log.into_parts();
     let log = log.finish();
     match hand_on(alloc, &log, &declared, lines, oldest, None)? {
         Some(carry) => Ok(write_carry(alloc, &carry)?),
@@ -84,7 +87,7 @@ fn the_next_run_hands_on_too(rt: HostRuntime) -> Result<(), Fail> {
     let lines = carry.lines;
     let mut log = KeptLog::resume(alloc, &carry)?;
     assert!(rt; lines == 10);
-    take_all(&mut log, 11, &MORE)?;
+    take_all(&mut log, 1, &MORE)?;
     assert!(rt; carried(alloc, log, 12, u64::MAX)?.as_str() == NEXT);
     Ok(())
 }

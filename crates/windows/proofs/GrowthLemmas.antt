@@ -371,25 +371,40 @@ read_ok : (r : Result TraceValue (LineFault Cause)) (t : TraceValue) → faulted
 read_ok (Ok s) t h = let same : s ≡ t = cc in ap Ok same
 read_ok (Err e) t h = cc
 
+-- lines from number k + 1 on are put behind a trace: what the first of them make, and what all make
+pub begins_from : (k room : ℕ) (s : TraceValue) → next_line s ≤ k + 1 → (a b : List ℕ) (t : TraceValue)
+    → read_from takes true (k + 1) room s (parts ((a ++ 10 ∷ []) ++ b)) ≡ Ok t → (u : TraceValue)
+    × (read_from takes true (k + 1) room s (parts (a ++ 10 ∷ [])) ≡ Ok u) × GoesOn (k + length (parts a)) u t
+begins_from k room s fits a b t h =
+    let lines : parts ((a ++ 10 ∷ []) ++ b) ≡ parts a ++ parts b = ap parts (append_assoc a (10 ∷ []) b)
+    ∙ parts_at a b in
+    let all = sym (ap (λ (ls : List (List ℕ)). read_from takes true (k + 1) room s ls) lines) ∙ h in
+    let n = length-slice_split (λ b. eqb b 10) b in
+    let f = has_first (k + 1) room s (parts a) (parts b) t (omega (arith, n)) fits all in (
+      f.u,
+      ap (λ (ls : List (List ℕ)). read_from takes true (k + 1) room s ls) (parts_at a []) ∙ f.first,
+      let fits = f.fits in
+          let counted = f.counted in
+          let within : next_line f.u ≤ k + length (parts a) + 1 = omega (arith, fits, counted) in
+          value_has (GoesOn (k + length (parts a)) f.u) (read_from takes true f.number f.left f.u (parts b)) t f.then (lines_on
+          (k + length (parts a)) f.u within f.number f.left f.u (parts b) (omega (arith, counted)) (goes_on-itself
+          (k + length (parts a)) f.u within)),
+    )
+
+-- all that lines make goes on from what they are put behind
+pub goes_from : (k room : ℕ) (s : TraceValue) → next_line s ≤ k + 1 → (lines : List (List ℕ)) (t : TraceValue)
+    → read_from takes true (k + 1) room s lines ≡ Ok t → GoesOn k s t
+goes_from k room s fits lines t h = value_has (GoesOn k s) (read_from takes true (k + 1) room s lines) t h
+    (lines_on k s fits (k + 1) room s lines (omega arith) (goes_on-itself k s fits))
+
 pub begins : (a b : List ℕ) (t : TraceValue) → trace_of true ((a ++ 10 ∷ []) ++ b) ≡ Ok t → (u : TraceValue)
     × (trace_of true (a ++ 10 ∷ []) ≡ Ok u) × GoesOn (length (parts a)) u t
 unfolding read_all
 begins a b t h =
-    let lines : parts ((a ++ 10 ∷ []) ++ b) ≡ parts a ++ parts b = ap parts (append_assoc a (10 ∷ []) b)
-    ∙ parts_at a b in
-    let all = read_ok _ t (sym (ap (λ (ls : List (List ℕ)). faulted (read_from takes true 1 (2 ^ 30) empty_trace ls))
-    lines) ∙ h) in
-    let n = length-slice_split (λ b. eqb b 10) b in
-    let f = has_first 1 (2 ^ 30) empty_trace (parts a) (parts b) t (omega (arith, n)) (omega arith) all in (
-      f.u,
-      ap (λ (ls : List (List ℕ)). faulted (read_from takes true 1 (2 ^ 30) empty_trace ls)) (parts_at a [])
-          ∙ ap faulted f.first,
-      let fits = f.fits in
-          let counted = f.counted in
-          let within : next_line f.u ≤ length (parts a) + 1 = omega (arith, fits, counted) in
-          value_has (GoesOn (length (parts a)) f.u) (read_from takes true f.number f.left f.u (parts b)) t f.then (lines_on
-          (length (parts a)) f.u within f.number f.left f.u (parts b) (omega (arith, counted)) (goes_on-itself (length
-          (parts a)) f.u within)),
+    let first = begins_from 0 (2 ^ 30) empty_trace (omega arith) a b t (read_ok _ t h) in (
+      first.0,
+      ap faulted first.1,
+      subst (λ (k : ℕ). GoesOn k first.0 t) (let z : 0 + length (parts a) ≡ length (parts a) = omega arith in z) first.2,
     )
 
 blank_line : (n room : ℕ) (s : TraceValue) → read_from takes true n room s ([] ∷ []) ≡ Ok s
@@ -402,7 +417,4 @@ nothing_said = ap faulted (blank_line 1 (2 ^ 30) empty_trace)
 
 pub from_nothing : (a : List ℕ) (t : TraceValue) → trace_of true a ≡ Ok t → GoesOn 0 empty_trace t
 unfolding read_all
-from_nothing a t h =
-    let fits : next_line empty_trace ≤ 0 + 1 = omega arith in
-    value_has (GoesOn 0 empty_trace) (read_from takes true 1 (2 ^ 30) empty_trace (parts a)) t (read_ok _ t h) (lines_on 0
-    empty_trace fits 1 (2 ^ 30) empty_trace (parts a) (omega arith) (goes_on-itself 0 empty_trace fits))
+from_nothing a t h = goes_from 0 (2 ^ 30) empty_trace (omega arith) (parts a) t (read_ok _ t h)

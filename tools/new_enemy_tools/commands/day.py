@@ -32,20 +32,20 @@ from new_enemy_tools.files import write_whole
 from new_enemy_tools.ids import Ids
 from new_enemy_tools.importing.chained import end_of, head_of
 from new_enemy_tools.importing.going_on import cut, read_left, write_left
-from new_enemy_tools.looked import Looked
+from new_enemy_tools.labels import Labels
 from new_enemy_tools.parting.faults import PartsFault
 from new_enemy_tools.progress import Progress
 from new_enemy_tools.shown import tell as tell_line
+from new_enemy_tools.windowing.audited_window import Audited, Refused, audited, audited_so_far, parts_needed, state_before, write_next
 from new_enemy_tools.windowing.auditing import How
 from new_enemy_tools.windowing.carrying import version_of
 from new_enemy_tools.windowing.days import COMPARED, INDEX, JOINED_LOG, MAIL, PAGE, Days, Summary, compared, digest_of
-from new_enemy_tools.windowing.effects import looked_at, texts_of
 from new_enemy_tools.windowing.faults import WindowFault
 from new_enemy_tools.windowing.following import Following
 from new_enemy_tools.windowing.keeping import keep_trace
-from new_enemy_tools.windowing.reading import Own
-from new_enemy_tools.windowing.run import Audited, Refused, audited, audited_so_far, parts_needed, state_before, write_next
 from new_enemy_tools.windowing.state import State
+from new_enemy_tools.windowing.window_bytes import Own
+from new_enemy_tools.windowing.window_effects import labels_at, texts_of
 
 # The worst of two runs first.
 STATUSES = (2, 1, 6, 0)
@@ -171,9 +171,8 @@ def traced(days: Days, given: Namespace, before: import_logs.Before) -> Traced:
     said = io.StringIO()
     try:
         with contextlib.redirect_stderr(said):
-            # One odd tuple or rule takes the audit from what hangs on it, and not from the day.
             made = import_logs.run([given.service, "--trace", days.work("trace"), "--ids", days.work("ids.jsonl"), "--go-on", days.work("left"),
-                                    "--skip-unmapped", "--jobs", str(given.jobs), *given.words], before)
+                                    "--jobs", str(given.jobs), *given.words], before)
     except BaseException:
         sys.stderr.write(said.getvalue())
         raise
@@ -216,16 +215,16 @@ def made(days: Days, given: Namespace, digest: str, progress: Progress) -> int:
 def kept(days: Days, given: Namespace, own: Own, found: Audited, ids: Optional[Ids], digest: str) -> int:
     """Makes a day of what was found, in the folder that is worked in; its number."""
     write_next(days.work("state"), found.window, found.carry)
-    looked = looked_at(found, own)
-    write_reports(days, found, own, ids, looked, given.said)
+    labels = labels_at(found, own)
+    write_reports(days, found, own, ids, labels, given.said)
     if given.html:
         # Days without pages need not wait until this is loaded.
-        from new_enemy_tools.windowing.pages import write_day
+        from new_enemy_tools.windowing.day_pages import write_day
         write_day(found, own, ids, 1 + (days.last or 0), days.work(PAGE))
     told = found.told
     write_whole(days.work("summary.json"), [json.dumps(Summary(
         given.names, digest, told.status(given.allow_unaudited), told.entries, len(told.findings),
-        sum(told.coverage.not_audited.values()), told.held, told.verdict, told.coverage.row(), looked._asdict(), given.held_back)._asdict())])
+        sum(told.coverage.not_audited.values()), told.held, told.verdict, told.coverage.row(), labels._asdict(), given.held_back)._asdict())])
     if given.keep_days:
         keep_trace(days.work(), found, own)
     if os.path.exists(days.work("trace")):
@@ -234,19 +233,19 @@ def kept(days: Days, given: Namespace, own: Own, found: Audited, ids: Optional[I
     number = days.keep()
     days.tidy(given.keep_days)
     if given.html:
-        from new_enemy_tools.windowing.pages import index
+        from new_enemy_tools.windowing.day_pages import index
         write_whole(os.path.join(given.folder, INDEX), index(days))
     return number
 
 
-def write_reports(days: Days, found: Audited, own: Own, ids: Optional[Ids], looked: Looked, said: list[str]) -> None:
+def write_reports(days: Days, found: Audited, own: Own, ids: Optional[Ids], labels: Labels, said: list[str]) -> None:
     """The report as text, and with effects as rows of JSON; and what is written out, with what the days before say of their checks. `said` is
     what is told of what waits."""
     texts, where = texts_of(found, own, ids), places(found, own).__getitem__
     write_whole(days.work("report.txt"), found.told.lines(where, beside=said))
     write_whole(days.work("report.jsonl"), texts.rows)
     before = [(number, days.summary(number).looked) for number in days.numbers[:-COMPARED - 1:-1]]
-    write_whole(days.work(MAIL), found.told.lines(where, texts.groups, [*said, *compared(looked, before)]))
+    write_whole(days.work(MAIL), found.told.lines(where, texts.groups, [*said, *compared(labels, before)]))
 
 
 def cannot_show(said: list[str], is_first: bool) -> list[str]:

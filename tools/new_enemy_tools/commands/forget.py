@@ -30,7 +30,7 @@ def main(words: list[str]) -> int:
     try:
         days.forget(given.keep_days)
         if os.path.exists(os.path.join(given.folder, INDEX)):
-            from new_enemy_tools.windowing.pages import index
+            from new_enemy_tools.windowing.day_pages import index
             write_whole(os.path.join(given.folder, INDEX), index(days))
     finally:
         days.close()

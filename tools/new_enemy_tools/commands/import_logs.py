@@ -67,7 +67,10 @@ def given_of(words: list[str]) -> tuple[Parser, Namespace]:
         service.add_argument("--skew", type=int, metavar="MS", help="order events by time, and refuse two of different clocks within MS milliseconds if their order could change a finding")
         service.add_argument("--sequence-has-holes", action="store_true",
                              help="no line is missing where a number of the `sequence` is")
-        service.add_argument("--skip-unmapped", action="store_true", help="leave out tuples and rules that a trace cannot say, and each check that hangs on them")
+        unmapped = service.add_mutually_exclusive_group()
+        unmapped.add_argument("--refuse-unmapped", action="store_true",
+                              help="refuse tuples and rules that a trace cannot say, in place of leaving them out with each check that hangs on them")
+        unmapped.add_argument("--skip-unmapped", action="store_true", help="leave them out, as is done anyway")
         add_allowing(service)
         service.add_argument("--trace", default="trace.jsonl", metavar="FILE", help="the trace to write (trace.jsonl)")
         service.add_argument("--ids", default="ids.jsonl", metavar="FILE", help="the table of ids to add to (ids.jsonl)")
@@ -192,16 +195,6 @@ def say(text: str) -> None:
     tell(text, sys.stderr)
 
 
-def told_left_out(refusals: Refusals) -> None:
-    for note in refusals.notes.values():
-        say(note)
-    for verb, counts in (("passed over", refusals.passed), ("left out", refusals.left_out)):
-        for reason, count in sorted(counts.items()):
-            say("%s %d: %s" % (verb, count, reason))
-    for cause, first in sorted(refusals.firsts.items()):
-        say("not audited: %s, first at %s" % (cause, first))
-
-
 def told_refused(refusals: Refusals) -> int:
     for line in refusals.lines():
         say(line)
@@ -255,7 +248,7 @@ def goes_on_of(given: Namespace, service: str, before: Optional[Before]) -> Opti
 
 
 def imported(given: Namespace, base: Any, before: Optional[Before]) -> Imported:
-    refusals = Refusals(given.skip_unmapped)
+    refusals = Refusals(given.refuse_unmapped)
     with Progress() as progress, locked(given.ids):
         service = given.service if given.name is None else "%s %s" % (given.service, given.name)
         goes_on = goes_on_of(given, service, before)
@@ -268,7 +261,8 @@ def imported(given: Namespace, base: Any, before: Optional[Before]) -> Imported:
         left = core.left()
         if left is not None and not refusals.refused:
             write_left(given.go_on, left._replace(ids=mark_of_file(given.ids)))
-    told_left_out(refusals)
+    for line in refusals.told():
+        say(line)
     if made is None or written is None or refusals.refused:
         return Imported(told_refused(refusals))
     coverage = made.coverage(refusals)

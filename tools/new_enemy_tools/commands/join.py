@@ -74,7 +74,7 @@ def log_of(folder: str) -> Given:
 
 def read_log(folder: str, names: list[str], is_base: bool = False) -> Given:
     """A log of some files, or of its base state alone; raises JoinFault."""
-    refusals = Refusals(True)
+    refusals = Refusals()
     paths = in_chain([os.path.join(folder, name) for name in names], refusals)
     if paths is None:
         raise JoinFault("%s has files that are none of a recorder's log" % folder)
@@ -104,7 +104,7 @@ def own_in(path: str, took: int) -> Own:
     paths = [os.path.join(path, name) for name in taps_in(path)] if os.path.isdir(path) else [path]
     if not os.path.isdir(path) and _first_of(path).get("event") is not None:
         return own_of(Given(path, partial(rows_of, [(path, os.path.getsize(path))]), True))
-    refusals = Refusals(True)
+    refusals = Refusals()
     found = overheard(path, (row for one in paths for row in values_of(one, refusals)), took)
     if refusals.refused:
         raise Refused(path, refusals)
@@ -118,7 +118,7 @@ def taps_in(folder: str) -> list[str]:
 
 def _first_of(path: str) -> Value:
     """The first value of a file, where that is an object."""
-    for _, value in located.values(path, Refusals(True)):
+    for _, value in located.values(path, Refusals()):
         return value if isinstance(value, dict) else {}
     return {}
 

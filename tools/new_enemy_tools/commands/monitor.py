@@ -20,18 +20,17 @@ from datetime import tzinfo
 from typing import Iterator, Optional
 
 from new_enemy_tools import limits
-from new_enemy_tools.commands.running import Parser, add_allowing, add_skew, percent
-from new_enemy_tools.commands.window import PROGRAM
+from new_enemy_tools.commands.running import Parser, add_allowing, add_program, add_skew, percent
 from new_enemy_tools.effects import EFFECTS
 from new_enemy_tools.faults import DeviceFault, ToolFault
 from new_enemy_tools.files import read_bytes
 from new_enemy_tools.monitoring.core import Settings
 from new_enemy_tools.monitoring.joined import FOLDER, Several
-from new_enemy_tools.monitoring.kept import options
 from new_enemy_tools.monitoring.machine import Machine, Way
 from new_enemy_tools.monitoring.marks import Mark
 from new_enemy_tools.monitoring.midnights import UTC, NoZone, zone_of
 from new_enemy_tools.monitoring.receivers import SYSLOG, Command, Output, Receiver, Syslog, Webhook
+from new_enemy_tools.monitoring.run_files import options
 from new_enemy_tools.recording.command import address_of, url_of
 from new_enemy_tools.shown import tell
 
@@ -135,8 +134,7 @@ def add_runs(parser: Parser) -> None:
                         help="end the last run too, and stop, when all of the log is read and every receiver has its "
                         "alerts")
     add_allowing(parser)
-    parser.add_argument("--program", default=PROGRAM, metavar="PROGRAM",
-                        help="the auditor (new_enemy in the folder above tools)")
+    add_program(parser)
 
 
 def secret_of(path: Optional[str]) -> Optional[bytes]:

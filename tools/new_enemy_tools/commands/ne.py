@@ -29,6 +29,7 @@ COMMANDS = {
     "draw": Command("commands.draw", "draws what the rules say of a goal, and what the service said"),
     "join": Command("commands.join", "joins the logs of several recorders of one service into one"),
     "record": Command("recording.command", "records what a service decides, as a proxy in front of it"),
+    "selftest": Command("commands.selftest", "tries whether the recorder fits a service of yours, in a scratch place of it"),
 }
 
 

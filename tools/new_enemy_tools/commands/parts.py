@@ -21,8 +21,8 @@ from new_enemy_tools.parting.cutting import Cut
 from new_enemy_tools.parting.faults import PartsFault
 from new_enemy_tools.parting.manifest import MOST_PARTS, read_manifest
 from new_enemy_tools.parting.merging import Answer, answer_of
+from new_enemy_tools.parting.part_runs import run_all, run_parts
 from new_enemy_tools.parting.reports import read_part_report
-from new_enemy_tools.parting.running import run_all, run_parts
 from new_enemy_tools.pieces import PiecesReader, pieces_of
 from new_enemy_tools.progress import Progress
 from new_enemy_tools.shown import tell as tell_line

@@ -24,15 +24,14 @@ from new_enemy_tools.files import read_bytes, read_ids, read_joined, read_trace_
 from new_enemy_tools.findings import read_report
 from new_enemy_tools.forms import FORMS
 from new_enemy_tools.ignoring import read_rows
-from new_enemy_tools.looked import looked_in
+from new_enemy_tools.labels import labels_in
 from new_enemy_tools.names import Names
 from new_enemy_tools.progress import Progress
-from new_enemy_tools.trace_lines import OtherForm
 from new_enemy_tools.shown import tell
 from new_enemy_tools.telling import LeftOut, Telling, telling_of, told_of, warnings_of
 from new_enemy_tools.trace import Trace
+from new_enemy_tools.trace_lines import OtherForm
 from new_enemy_tools.windowing.keeping import kept_day
-
 
 
 def parser_of_words() -> Parser:
@@ -73,7 +72,7 @@ def left_out(ignore: Optional[str], baseline: Optional[str], is_named: bool) -> 
     return LeftOut(rows, known, date.today())
 
 
-class Told(NamedTuple):
+class Rendered(NamedTuple):
     """What is to be told, and what is to be said of the rows that leave something out."""
 
     telling: Telling
@@ -91,7 +90,7 @@ class Teller:
         self.data = b"" if self.day is not None else split_joined(read_joined(given.trace))[0]
         self.report: Optional[str] = None
 
-    def told(self) -> Told:
+    def told(self) -> Rendered:
         if self.day is not None:
             return self._told(self.day.trace())
         if self.given.form != "html":
@@ -102,25 +101,25 @@ class Teller:
                 pass
         return self._told(read_trace_of(self.data, self.progress))
 
-    def _told(self, trace: Trace) -> Told:
+    def _told(self, trace: Trace) -> Rendered:
         given = self.given
         ids = read_ids(given.ids, trace)
         out = left_out(given.ignore, given.baseline, ids is not None)
         step = self.progress.steps("looked at %s findings")
         if self.day is not None:
-            report, coverage, looked = self.day.told()
+            report, coverage, labels = self.day.told()
             # The trace has content checks of the days before too.
             told = told_of(trace, report._replace(entries=len(trace.entries)), step)
         else:
             if self.report is None:
                 self.report = report_text(given.report)
-            report, coverage, looked = read_report(self.report), coverage_in(self.data), looked_in(self.data)
+            report, coverage, labels = read_report(self.report), coverage_in(self.data), labels_in(self.data)
             told = told_of(trace, report, step)
-        telling = telling_of(told, trace, Names(ids), given.trace, report, looked, coverage, out)
-        return Told(telling, warnings_of(telling, out), [] if given.form == "html" else list(form_of(given.form)(telling)))
+        telling = telling_of(told, trace, Names(ids), given.trace, report, labels, coverage, out)
+        return Rendered(telling, warnings_of(telling, out), [] if given.form == "html" else list(form_of(given.form)(telling)))
 
 
-def told_quickly(given: argparse.Namespace, progress: Progress) -> Told:
+def told_quickly(given: argparse.Namespace, progress: Progress) -> Rendered:
     """What is read is kept to the end, and looking for garbage in it takes a fifth of the time."""
     gc.disable()
     try:

@@ -40,6 +40,13 @@ def add_allowing(parser: argparse.ArgumentParser) -> None:
                         "percent of the checks, and of the time in gaps, were not looked at whole (0)")
 
 
+def add_program(parser: argparse.ArgumentParser) -> None:
+    """The auditor of a clone or a tarball stands above the folder of the tools; a Debian package puts it into the PATH."""
+    above = os.path.join(os.path.dirname(os.path.dirname(os.path.dirname(os.path.dirname(os.path.abspath(__file__))))), "new_enemy")
+    parser.add_argument("--program", default=above if os.path.isfile(above) else "new_enemy", metavar="PROGRAM",
+                        help="the auditor (new_enemy in the folder above the tools, or of the PATH)")
+
+
 def add_skew(parser: argparse.ArgumentParser) -> None:
     parser.add_argument("--skew", type=int, default=1000, metavar="MS", help="by how many milliseconds the clocks of the machines of joined logs may "
                         "be apart (1000)")

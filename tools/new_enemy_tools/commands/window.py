@@ -18,19 +18,17 @@ from argparse import ArgumentParser, Namespace
 from typing import Iterable
 
 from new_enemy_tools import limits, strictjson
-from new_enemy_tools.commands.running import Parser, add_allowing
+from new_enemy_tools.commands.running import Parser, add_allowing, add_program
 from new_enemy_tools.parting.faults import PartsFault
 from new_enemy_tools.parting.manifest import MOST_PARTS
 from new_enemy_tools.progress import Progress
 from new_enemy_tools.shown import plain, tell
+from new_enemy_tools.windowing.audited_window import Audited, Refused, audited, parts_needed, read_own, records_of, refuse_bad, state_before, write_next
 from new_enemy_tools.windowing.auditing import How
 from new_enemy_tools.windowing.carrying import Keep, carried
 from new_enemy_tools.windowing.faults import WindowFault
-from new_enemy_tools.windowing.reading import Own, lines_of, with_strata
-from new_enemy_tools.windowing.run import Audited, Refused, audited, parts_needed, read_own, records_of, refuse_bad, state_before, write_next
 from new_enemy_tools.windowing.state import read_state
-
-PROGRAM = os.path.join(os.path.dirname(os.path.dirname(os.path.dirname(os.path.dirname(os.path.abspath(__file__))))), "new_enemy")
+from new_enemy_tools.windowing.window_bytes import Own, lines_of, with_strata
 
 
 def add_keeping(parser: ArgumentParser) -> None:
@@ -43,7 +41,7 @@ def add_keeping(parser: ArgumentParser) -> None:
 
 
 def add_auditing(parser: ArgumentParser) -> None:
-    parser.add_argument("--program", default=PROGRAM, metavar="PROGRAM", help="the auditor (new_enemy in the folder above tools)")
+    add_program(parser)
     add_allowing(parser)
     parser.add_argument("--parts", type=int, metavar="N", help="audit in so many parts (as few as the program can take)")
 

@@ -10,6 +10,7 @@ from new_enemy_tools.importing.checks import Row, column
 from new_enemy_tools.importing.events import Event
 from new_enemy_tools.importing.packed import Indexer, Packed
 from new_enemy_tools.importing.refusals import Refusals
+from new_enemy_tools.importing.short import short
 from new_enemy_tools.importing.spool import CALL, CHECKS, Lines, WriteRow, found_in, row_of
 
 ORDER = "%s:%d: a check saw this write before the line of its call: each such write is put before what saw it, and none is called F4"
@@ -36,7 +37,7 @@ def _marks(row: WriteRow, time: int) -> Iterator[int]:
     """A number for each tuple that a write adds or removes: first what it does, then a time. Of many, numbers take little memory."""
     for is_added, side in ((True, row.add), (False, row.remove)):
         for given in side:
-            yield (hash((is_added, *given)) & MASK) << BITS | time + EPOCH
+            yield short((is_added, *given)) << BITS | time + EPOCH
 
 
 def _times_of(marks: list[int], change: int) -> list[int]:

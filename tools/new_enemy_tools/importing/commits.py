@@ -105,15 +105,21 @@ class Writer:
         """A user that stands for itself in a tupleset also gives the userset that `tuple_to` reads."""
         of = Userset(*given[:3])
         if not self.declared.rules.is_declared(of.namespace, of.relation):
-            self.refusals.unmapped(event.file, event.line, "tuple of a relation that the rules do not have", str(given))
-            self.refusals.doubt(*of)
+            self.refusals.unmapped_tuple(event.file, event.line, "tuple of a relation that the rules do not have", given, event.base)
+            self.refusals.has_other_rules = True
             return []
         if given.user_relation == EVERY and (of.namespace, of.relation) in self.declared.tuplesets:
             self.refusals.refuse(event.file, event.line, "a rule goes on from %s#%s, and no rule can from every user: %s"
                                  % (of.namespace, of.relation, given))
+        if given.user_relation == EVERY and not self.wildcards.have_form:
+            self.refusals.unmapped_tuple(event.file, event.line, "tuple for every user of a type, in a log that goes on", given, event.base)
+            return []
         if given.user_relation == EVERY:
             return [Tuple(of, self.wildcards.set_of(given.user_type))]
         if given.user_relation is not None:
+            if not self.declared.rules.is_declared(given.user_type, given.user_relation):
+                self.refusals.note("undeclared", "%s:%d: nobody is in %s:%s#%s, a relation that the rules do not have"
+                                   % (event.file, event.line, *given[3:]))
             return [Tuple(of, Userset(given.user_type, given.user_id, given.user_relation))]
         found = [Tuple(of, self.ids.number("user", given.user_type, given.user_id))]
         if (of.namespace, of.relation) in self.declared.tuplesets:

@@ -93,7 +93,7 @@ class Core:
         self.missing = missing if self.missing is None else self.missing
         self.last_number = given.lines.facts.numbers.last
         lines = given.end()
-        wildcards = Wildcards(lines)
+        wildcards = self._wildcards(lines)
         if ahead is not None and ahead.stands(lines):
             self.refusals.merge(ahead.refusals)
             self.taken.refusals = self.refusals
@@ -153,7 +153,7 @@ class Core:
             going_on.take_left_out(before, refusals)
         commit = self._base(lines)
         self.taken = Taken(self.declared, self.writer, self.ids, refusals, self.progress, self._base_revision(commit, base),
-                           bool(commit and commit.touched), lines.facts.has_between)
+                           bool(commit and commit.touched) or self.refusals.has_older or refusals.has_older, lines.facts.has_between)
         self.taken.missing = self.missing
         if before is not None:
             going_on.take_up(before, self.taken)
@@ -166,12 +166,15 @@ class Core:
         if self._before is None:
             # Rules stand before all else.
             next(given.more, None)
-        ahead = Ahead(given.lines, Refusals(self.refusals.skip), self.refusals)
+        ahead = Ahead(given.lines, Refusals(self.refusals.is_strict), self.refusals)
         if self._before is None and (self.goes_on is not None or not ahead.may_begin()):
             return None
-        self._begin(given.lines, Wildcards(given.lines), given.base, ahead.refusals)
+        self._begin(given.lines, self._wildcards(given.lines), given.base, ahead.refusals)
         self.taken.take_all(ahead.stream(given.more), Spans(()))
         return ahead
+
+    def _wildcards(self, lines: Lines) -> Wildcards:
+        return Wildcards(lines if self.goes_on is None else None)
 
     def _take_all(self, given: Given, lines: Lines, wildcards: Wildcards) -> None:
         self.ids.forget()

@@ -21,9 +21,9 @@ ENTRY = EVERY_EVENT | {"goal", "snapshot", "snapshot_between", "newest_between",
 KEYS = {"rules": EVERY_EVENT | {"revision", "model", "namespaces", "came"},
         "write": EVERY_EVENT | {"revision", "base", "add", "remove", "came"},
         "check": ENTRY | {"newest"}, "content": ENTRY | {"newest"},
-        "gap": EVERY_EVENT | {"from", "to", "reason", "lost"}, "unmapped": EVERY_EVENT | {"reason", "detail", "userset", "version"},
-        "feed": EVERY_EVENT | {"store", "changes"}, "read": EVERY_EVENT | {"until", "revision", "unsure"}, "log": EVERY_EVENT | {"number", "before", "service", "store", "cursor", "revision", "rules_sha256", "behind", "apart"},
-        "place": EVERY_EVENT | {"cursor", "revision", "rules_sha256", "behind", "apart"}, "closed": EVERY_EVENT | {"count", "sha256"}}
+        "gap": EVERY_EVENT | {"from", "to", "reason", "lost"}, "elsewhere": EVERY_EVENT | {"count"}, "unmapped": EVERY_EVENT | {"reason", "detail", "userset", "version", "base"},
+        "feed": EVERY_EVENT | {"store", "changes", "last"}, "read": EVERY_EVENT | {"until", "revision", "unsure"}, "log": EVERY_EVENT | {"number", "before", "service", "store", "cursor", "revision", "rules_sha256", "behind", "apart", "doubts"},
+        "place": EVERY_EVENT | {"cursor", "revision", "rules_sha256", "behind", "apart", "doubts"}, "closed": EVERY_EVENT | {"count", "sha256"}}
 # Lines of a recorder for itself and for the chain of its files.
 RECORDER = frozenset(("log", "feed", "read", "place", "closed"))
 NAMESPACE, RELATION = frozenset(("name", "relations")), frozenset(("name", "rewrite"))
@@ -327,6 +327,7 @@ def _unmapped(value: dict[str, Any], file: str, line: int, refusals: Refusals) -
     if userset:
         refusals.unmapped(file, line, reason, detail)
         refusals.doubt(*userset)
+        refusals.has_older |= value.get("base") is True
     else:
         refusals.unread_check(file, line, reason, detail)
     if version:
@@ -352,6 +353,9 @@ def _event(value: object, file: str, line: int, refusals: Refusals) -> Optional[
     event = put_stamp(Event(value["event"], source, source_line), stamp)
     if event.kind == "unmapped":
         _unmapped(value, source, source_line, refusals)
+        return None
+    if event.kind == "elsewhere":
+        refusals.elsewhere += _whole(value, "count")
         return None
     if event.kind == "gap":
         _gap(event, value, refusals)

@@ -12,8 +12,11 @@ from new_enemy_tools.importing.events import Entry, Event, Relationship, is_whol
 from new_enemy_tools.importing.models import BEFORE, Given, Models, OtherModel, TwoModels
 from new_enemy_tools.importing.order import ordered
 from new_enemy_tools.importing.packed import Index, Moments, Odd, Packed, Stood, stood_of
+from new_enemy_tools.importing.pages import read_again
 from new_enemy_tools.importing.reading import Bad
 from new_enemy_tools.importing.refusals import Refusals
+from new_enemy_tools.importing.service import WITHOUT_CONDITION
+from new_enemy_tools.importing.short import short
 from new_enemy_tools.importing.spool import CHECKS, Lines, WriteRow, row_of
 from new_enemy_tools.importing.times import nanoseconds
 
@@ -155,23 +158,35 @@ class Placing:
 
     def write(self, row: WriteRow, revision: int) -> WriteRow:
         """A write of the trace; those of one timestamp are a group."""
-        add, remove = self._tuples(row, row.add, not row.base), self._tuples(row, row.remove, False)
-        return row._replace(revision=revision, group=None if row.base else row.revision, add=add, remove=remove)
+        add, remove = self._tuples(row, row.add, True), self._tuples(row, row.remove, False)
+        return row._replace(revision=revision, group=None if row.base else row.revision, add=add, remove=remove, asked=None)
 
-    def _tuples(self, row: WriteRow, given: list[Row], is_added: bool) -> list[Row]:
+    def _tuples(self, row: WriteRow, given: list[Row], live: bool) -> list[Row]:
         """Each tuple once for each relation that has it. What no model takes no check sees; but such a write had a model, which the log lacks."""
         found: list[Row] = []
         for one in given:
             key = (one[0], one[2], one[3], one[5])
-            names = self.models.takes(key)
-            if not names and not self.models.is_taken(key):
-                if is_added:
-                    self.refusals.unmapped(row.file, row.line, NOT_TAKEN, str(Relationship(*one)))
-                    self.refusals.doubt(*one[:3])
+            names, in_doubt = self.models.takes(key), self.models.taking_with_condition(key)
+            if live and row.asked is not None:
+                self._leave_out(row, one, row.asked[0], self.models.all_names(one[2]))
+                continue
+            if live and in_doubt:
+                self._leave_out(row, one, WITHOUT_CONDITION, in_doubt)
+            elif not names and not in_doubt and not self.models.is_taken(key):
+                if live and not row.base:
+                    self._leave_out(row, one, NOT_TAKEN, self.models.all_names(one[2]))
+                    self.refusals.has_other_rules = True
                 else:
                     self.refusals.pass_over("stored tuple that no model takes, so that no check sees it")
             found += [(*one[:2], name, *one[3:5], user_relation) for name, user_relation in names]
         return found
+
+    def _leave_out(self, row: WriteRow, given: Row, reason: str, names: list[str]) -> None:
+        """Leaves a tuple out of these relations, which are in doubt."""
+        self.refusals.unmapped(row.file, row.line, reason, str(Relationship(*given)))
+        self.refusals.has_older |= row.base
+        for name in names:
+            self.refusals.doubt(given[0], given[1], name)
 
     def block(self, given: Packed, places: list[Optional[int]]) -> Optional[Packed]:
         """A block with numbers, whose rows that are taken by themselves have none yet; None where each line has to be looked at by itself."""
@@ -206,8 +221,7 @@ class Placing:
 
     def doubts(self) -> None:
         """What is in doubt of a relation is so for each model."""
-        self.refusals.doubts = [(of, id_text, name) for of, id_text, relation in self.refusals.doubts
-                                for name in sorted({self.models.name(model, relation) for model in self.models.used})]
+        self.refusals.doubts = [(of, id_text, name) for of, id_text, relation in self.refusals.doubts for name in self.models.all_names(relation)]
 
 
 def placed(lines: Lines, base: Moment, given: Given, skew: Optional[int], refusals: Refusals, ends: Optional[Unshown] = None) -> Lines:
@@ -240,6 +254,8 @@ def placed(lines: Lines, base: Moment, given: Given, skew: Optional[int], refusa
             at += is_change(line)
             if row is not None:
                 made.add_row(row)
+    # What checks that name their models ask, another model does not change.
+    refusals.has_other_rules = refusals.has_other_rules and None in _asked(lines)
     return made
 
 
@@ -286,8 +302,9 @@ def _changes(lines: Lines, base: Moment, given: Given, skew: Optional[int],
     times: list[int] = []
     places: list[Optional[int]] = []
     by_event: dict[int, Optional[int]] = {}
+    again = None if are_sorted else read_again(lines, refusals.pages)
     for found in in_order if are_sorted else lines.stream():
-        if isinstance(found, Packed) and (base.time is None or min(found.head.writes, default=base.time) > base.time) \
+        if isinstance(found, Packed) and again is None and (base.time is None or min(found.head.writes, default=base.time) > base.time) \
                 and repeated.take(found.head):
             places += range(len(times) + 1, len(times) + len(found.head.writes) + 1)
             times += found.head.writes
@@ -300,7 +317,7 @@ def _changes(lines: Lines, base: Moment, given: Given, skew: Optional[int],
                 continue
             if base.time is not None and event.revision <= base.time:
                 refusals.refuse(event.file, event.line, "its revision %s is not later than that of the base state" % event.shown)
-            is_again = repeated.has(event)
+            is_again = repeated.has(event) if again is None else next(again, False)
             if not is_again:
                 times.append(event.revision)
                 stored.take(event.file, stood_of([event if isinstance(event, tuple) else row_of(event)]))
@@ -379,10 +396,10 @@ class Stored:
     def __init__(self, lines: Lines, refusals: Refusals):
         self.refusals = refusals
         self.keys: set[int] = set()
-        self.is_known = not refusals.left_out
+        self.is_known = True
         for event in lines.events() if lines.facts.last_base >= 0 else ():
             if isinstance(event, WriteRow) and event.base:
-                self.keys.update(map(hash, map(tuple, event.add)))
+                self.keys.update(map(short, map(tuple, event.add)))
 
     def take(self, file: str, changes: Iterable[Stood]) -> None:
         """Takes the changes that are next in order."""

@@ -113,7 +113,7 @@ def cut(left: Left, least: Optional[int], days: Optional[int], carries: Callable
 
 
 # Lines that an import cannot go on with, by what is known of all lines.
-UNFIT = {"has_every": "tuples for every user of a type", "has_newest": "content checks that say `newest`", "has_asked": "snapshots of PostgreSQL"}
+UNFIT = {"has_newest": "content checks that say `newest`", "has_asked": "snapshots of PostgreSQL"}
 
 
 def refuse_unfit(facts: Facts, is_first: bool, has_state: bool, file: str, refusals: Refusals) -> None:

@@ -124,6 +124,10 @@ class Models:
         """What the trace calls a relation of a model; one that the model does not have has no rule there either."""
         return self.names[model].get(relation) or (relation if len(self.used) == 1 else _label(relation, self.given[model]))
 
+    def all_names(self, relation: str) -> list[str]:
+        """What the trace calls a relation of the models that are used."""
+        return sorted({self.name(model, relation) for model in self.used})
+
     def rules(self) -> Event:
         """The rules of all models together, which are in force from the beginning."""
         first = self.given[0].event
@@ -149,6 +153,10 @@ class Models:
                 (self.name(model, relation), self.name(model, user_relation or "") if is_userset else user_relation)
                 for model in self.used if (user_type, user_relation) in self.given[model].takes.get((of, relation), ())))
         return found
+
+    def taking_with_condition(self, key: Key) -> list[str]:
+        """The relations of the trace by whose models a tuple has to have a condition."""
+        return [self.name(model, key[1]) for model in self.used if key[2:] in self.given[model].conditional.get(key[:2], ())]
 
     def is_taken(self, key: Key) -> bool:
         """Whether some model of the log takes such a tuple, also one that no check is of."""

@@ -56,7 +56,7 @@ class Events:
         block = source.block(place)
         if RULES in block.data:
             return place
-        refusals = Refusals(self.refusals.skip, self.refusals.is_chained)
+        refusals = Refusals(self.refusals.is_strict, self.refusals.is_chained)
         read, *others = self.pieces(block, refusals)
         # The word may be written in another way.
         return place if others or not isinstance(read, Read) else (read, refusals)

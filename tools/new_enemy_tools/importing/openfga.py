@@ -17,10 +17,11 @@ from new_enemy_tools.importing.pages import Page, refuse_missing
 from new_enemy_tools.importing.packed import Indexer
 from new_enemy_tools.importing.reading import Bad, get, spelled
 from new_enemy_tools.importing.refusals import Refusals
-from new_enemy_tools.importing.service import (Answer, Log, Looked, ServiceRules, demand_of, nested, one_of, refuse_wild_tuplesets,
+from new_enemy_tools.importing.service import (Answer, Log, Looked, ServiceRules, Users, demand_of, nested, one_of, refuse_wild_tuplesets,
                                                text_or_none, tuplesets_of)
 from new_enemy_tools.importing.shapes import (ID, LABEL, NULL, PART, REPLY, REST, STAMP, TEXT, TIME, USER_RELATION, WHOLE, Field, Form, Said, field,
                                               form, needed)
+from new_enemy_tools.importing.short import short
 from new_enemy_tools.importing.simple_yaml import beside, is_yaml, read_yaml
 from new_enemy_tools.importing.spool import CALL, Lines
 from new_enemy_tools.importing.times import nanoseconds
@@ -81,8 +82,7 @@ class ModelReader:
     def __init__(self, path: str, refusals: Refusals, line: int = 1):
         """`line` is that of a model which knows none of its own."""
         self.path, self.refusals, self.line = path, refusals, line
-        # those that some relation takes users with
-        self.conditions: dict[str, None] = {}
+        self.conditional: dict[tuple[str, str], set[tuple[str, Optional[str]]]] = {}
 
     def read(self) -> Optional[ServiceRules]:
         try:
@@ -132,12 +132,9 @@ class ModelReader:
         takes: dict[tuple[str, str], set[tuple[str, Optional[str]]]] = {}
         for given in get(model, "type_definitions"):
             self._type(given, event, takes)
-        conditions = get(model, "conditions")
-        for name in self.conditions if isinstance(conditions, dict) else ():
-            self.refusals.unmapped(self.path, line_at(conditions, name, self.line), "condition", name)
         self._refuse_unknown_users(takes, event)
         refuse_wild_tuplesets(event, takes, self.refusals)
-        return ServiceRules(event, get(model, "id") or None, takes)
+        return ServiceRules(event, get(model, "id") or None, takes, conditional=self.conditional)
 
     def _type(self, given: Any, event: Event, takes: dict[tuple[str, str], set[tuple[str, Optional[str]]]]) -> None:
         line = line_of(given, self.line)
@@ -165,25 +162,23 @@ class ModelReader:
                 mapped = {"this": {}}
             event.namespaces[name].append(RelationRule(relation, mapped, line))
             given_users = listed.get(relation) if isinstance(listed, dict) else None
-            takes[name, relation] = self._users(given_users, where, line) if _is_direct(rewrite) else set()
+            takes[name, relation], self.conditional[name, relation] = self._users(given_users if _is_direct(rewrite) else None, where, line)
             if _is_direct(rewrite) and not get(given_users, "directly_related_user_types"):
                 self.refusals.refuse(self.path, line, "%s has `this` and no `directly_related_user_types`" % where)
 
-    def _users(self, given: Any, where: str, line: int) -> set[tuple[str, Optional[str]]]:
-        users = set()
+    def _users(self, given: Any, where: str, line: int) -> tuple[Users, Users]:
+        """The users that a relation takes, and those that it takes with a condition alone."""
+        users: Users = set()
+        conditional: Users = set()
         listed = get(given, "directly_related_user_types")
         for user in listed if isinstance(listed, list) else ():
             here = line_of(user, line)
-            told = "%s of %s" % (get(user, "type"), where)
             if not isinstance(get(user, "type"), str) or not isinstance(get(user, "relation"), (str, type(None))):
                 self.refusals.refuse(self.path, here, "%s takes a user without a type" % where)
-            elif get(user, "condition"):
-                self.refusals.unmapped(self.path, here, "condition", "%s on %s" % (get(user, "condition"), told))
-                self.conditions[str(get(user, "condition"))] = None
             else:
                 relation = EVERY if get(user, "wildcard") is not None else get(user, "relation") or None
-                users.add((get(user, "type"), relation))
-        return users
+                (conditional if get(user, "condition") else users).add((get(user, "type"), relation))
+        return users, conditional - users
 
     def _refuse_unknown_users(self, takes: dict[tuple[str, str], set[tuple[str, Optional[str]]]], event: Event) -> None:
         known = {(name, relation.name) for name, listed in event.namespaces.items() for relation in listed}
@@ -365,7 +360,7 @@ class OpenFgaLog(Log):
         if not isinstance(behind, str) or not isinstance(ends, str):
             raise Bad("a `continuation_token` is no text")
         if request is not None and isinstance(get(changes, "changes"), list):
-            found = hash(behind) if behind else None, hash(ends), len(get(changes, "changes"))
+            found = short(behind) if behind else None, short(ends), len(get(changes, "changes"))
             self.refusals.pages.append(Page(*found, path, line, stamp.sequence))
         if not since or behind:
             return
@@ -410,7 +405,9 @@ class OpenFgaLog(Log):
         except Bad as fault:
             self.refusals.refuse(event.file, event.line, str(fault))
             return False
-        return self.put(event, given, live, "condition on a tuple" if get(key, "condition") else None)
+        # A tuple that is left out is one of the feed all the same, so that each place and each page that was read twice is known.
+        event.asked = ("condition on a tuple",) if live and get(key, "condition") else None
+        return self.put(event, given, live, None)
 
     def when_of(self, said: Said) -> Optional[When]:
         shown = needed(said, "timestamp").decode()
@@ -467,7 +464,7 @@ class OpenFgaLog(Log):
         response = get(value, "response")
         listed = get(response, "authorization_models")
         for model in listed if isinstance(listed, list) else [get(response, "authorization_model")]:
-            known = Refusals(self.refusals.skip)
+            known = Refusals(self.refusals.is_strict)
             rules = ModelReader(path, known, line).rules(model) if model is not None else None
             if rules is not None and rules.id is not None and not known.refused:
                 self.take(rules)

@@ -11,6 +11,7 @@ from typing import Any, Callable, Collection, Iterable, Iterator, Mapping, Named
 from new_enemy_tools.edges import Name
 from new_enemy_tools.ids import Ids
 from new_enemy_tools.importing.checks import NAMES, NEWEST, Checks, Other, Row, column
+from new_enemy_tools.importing.short import short
 
 # So many tuples fit on a line of a trace, whatever their names.
 FEW = 1_000
@@ -379,7 +380,7 @@ def stood_of(rows: Iterable[Row]) -> Iterator[Stood]:
     found: dict[int, Stood] = {}
     for row in rows:
         for live, listed in ((False, row[11]), (True, row[10])):
-            for key in map(hash, map(tuple, listed)):
+            for key in map(short, map(tuple, listed)):
                 before = found.get(key)
                 if before is None:
                     found[key] = Stood(key, live, live, row[2], False)

@@ -1,6 +1,6 @@
 """The pages in which changes were asked for: each begins where another one ends, or a page is missing."""
 from operator import itemgetter
-from typing import TYPE_CHECKING, Iterable, NamedTuple, Optional
+from typing import TYPE_CHECKING, Iterable, Iterator, NamedTuple, Optional
 
 if TYPE_CHECKING:
     from new_enemy_tools.importing.refusals import Refusals
@@ -22,28 +22,47 @@ class Page(NamedTuple):
     sequence: Optional[int]
 
 
-def without_request(writes: "Iterable[WriteRow]", pages: Iterable[Page]) -> "list[WriteRow]":
-    """The changes that stand in no page; both are in the order of the files."""
-    found: list[WriteRow] = []
-    waiting = (page for page in pages if page.changes)
-    page = next(waiting, None)
-    left = page.changes if page else 0
+def paged(writes: "Iterable[WriteRow]", pages: Iterable[Page]) -> "Iterator[tuple[WriteRow, Optional[int]]]":
+    """Each change with the number of the page that has it, if one does; both are in the order of the files."""
+    waiting = ((number, page) for number, page in enumerate(pages) if page.changes)
+    found = next(waiting, None)
+    left = found[1].changes if found else 0
     for row in writes:
-        if page is None or row.file != page.file or row.line < page.line:
-            found.append(row)
+        if found is None or row.file != found[1].file or row.line < found[1].line:
+            yield row, None
             continue
+        yield row, found[0]
         left -= 1
         if not left:
-            page = next(waiting, None)
-            left = page.changes if page else 0
-    return found
+            found = next(waiting, None)
+            left = found[1].changes if found else 0
+
+
+def read_again(lines: "Lines", pages: list[Page]) -> Optional[Iterator[bool]]:
+    """Of each change, in the order of the files, whether a page before had it, by the tokens; None where these do not tell, or tell of none."""
+    ends: dict[Optional[int], int] = {page.behind: 0 for page in pages[:1]}
+    again, count = list[int](), 0
+    for page in pages:
+        if page.behind not in ends:
+            return None
+        start = ends[page.behind]
+        again.append(max(0, min(page.changes, count - start)))
+        count = max(count, start + page.changes)
+        ends.setdefault(page.ends, start + page.changes)
+    marks = bytearray()
+    for _, number in paged(lines.writes(), pages) if any(again) else ():
+        if number is None:
+            return None
+        again[number] -= 1
+        marks.append(again[number] >= 0)
+    return map(bool, marks) if marks else None
 
 
 def refuse_missing(lines: "Lines", is_by_time: bool, has_base: bool, refusals: "Refusals") -> None:
     """A page begins behind one that stands before it, or behind any where that is not known; the first may where the base state
     ends. One page may begin behind changes that stand before it and have no request."""
     pages, is_sequenced = refusals.pages, lines.facts.is_sequenced
-    bare = without_request(lines.writes(), pages) if pages else []
+    bare = [row for row, number in paged(lines.writes(), pages) if number is None] if pages else []
     places = [page.sequence if is_sequenced else page.line for page in pages]
     is_known = not is_by_time and None not in places
     if bare and not is_known:

@@ -1,18 +1,19 @@
-"""What an import refuses, by file and line; what it leaves out where it is told to; checks that are not audited, and those that were lost,
+"""What an import refuses, by file and line; what it leaves out; checks that are not audited, and those that were lost,
 by cause; and lines that record no decision."""
 from collections import Counter
-from typing import TYPE_CHECKING, NamedTuple, Optional
+from typing import TYPE_CHECKING, Iterator, NamedTuple, Optional
 
 from new_enemy_tools.coverage import Coverage, counted
 from new_enemy_tools.importing.numbers import Numbers
 from new_enemy_tools.importing.pages import Page
 
 if TYPE_CHECKING:
-    from new_enemy_tools.importing.events import Entry
+    from new_enemy_tools.importing.events import Entry, Relationship
 
-HINT = " (--skip-unmapped leaves it out)"
+HINT = " (without --refuse-unmapped it is left out)"
 # Of one text in a file so many are listed; more are counted.
 LISTED = 10
+OTHER_RULES = "the log has tuples that none of its rules take, so other rules were in force: give those too"
 
 
 class Refused(NamedTuple):
@@ -22,23 +23,29 @@ class Refused(NamedTuple):
 
 
 class Refusals:
-    """Collects all refusals; with `skip`, a tuple or rule that has no form in a trace is counted and left out in place of being refused.
+    """Collects all refusals; a tuple or rule that has no form in a trace is counted and left out, and with `is_strict` refused in place of that.
 
     A check that cannot be audited is counted by its cause, and refuses nothing.
     """
 
-    def __init__(self, skip: bool = False, is_chained: bool = False):
-        self.skip = skip
+    def __init__(self, is_strict: bool = False, is_chained: bool = False):
+        self.is_strict = is_strict
         # whether the lines are of files of tools/record whose chain was checked
         self.is_chained = is_chained
         self.refused: dict[Refused, None] = {}
+        # of each reason how much was left out, and the first
         self.left_out: Counter[str] = Counter()
+        self.first_left_out: dict[str, str] = {}
+        # whether other rules were in force than the log has, and whether something was left out of the base state
+        self.has_other_rules = self.has_older = False
         # of each cause how many checks it struck, and the first
         self.not_audited: Counter[str] = Counter()
         self.firsts: dict[str, str] = {}
         self.lost: Counter[str] = Counter()
         # gaps in which nobody counted, and how long they were
         self.uncounted = self.dark = 0
+        # checks of other stores, as the recorder counted them
+        self.elsewhere = 0
         # files of a log that are not closed, and the number of the last file of a chain
         self.open = 0
         self.last_file: Optional[int] = None
@@ -58,6 +65,8 @@ class Refusals:
         # a change, each with its file and line
         self.starts: dict[tuple[str, int], int] = {}
         self.checkpoints: list[tuple[str, int, int]] = []
+        # of relations and users that they do not take by the rules that were read before, the first line
+        self.untaken: dict[tuple[tuple[str, str], tuple[str, Optional[str]]], tuple[str, int]] = {}
         # the stores that calls name, each with the first line that does
         self.stores: dict[str, tuple[str, int]] = {}
         self.doubts: list[tuple[str, Optional[str], str]] = []
@@ -73,12 +82,16 @@ class Refusals:
         """Takes what was collected from lines that stand behind."""
         self.refused.update(other.refused)
         self.left_out.update(other.left_out)
+        self.first_left_out = {**other.first_left_out, **self.first_left_out}
+        self.has_other_rules |= other.has_other_rules
+        self.has_older |= other.has_older
         self.passed.update(other.passed)
         self.not_audited.update(other.not_audited)
         self.firsts = {**other.firsts, **self.firsts}
         self.lost.update(other.lost)
         self.uncounted += other.uncounted
         self.dark += other.dark
+        self.elsewhere += other.elsewhere
         self.has_lost_version |= other.has_lost_version
         for kind, text in other.notes.items():
             self.note(kind, text)
@@ -92,6 +105,7 @@ class Refusals:
         self.numbers.merge(other.numbers)
         for call, place in other.unseen.items():
             self.unseen.setdefault(call, place)
+        self.untaken = {**other.untaken, **self.untaken}
         for store, place in other.stores.items():
             self.stores.setdefault(store, place)
         self.doubts += other.doubts
@@ -101,12 +115,19 @@ class Refusals:
     def refuse(self, file: str, line: int, text: str) -> None:
         self.refused[Refused(file, line, text)] = None
 
-    def unmapped(self, file: str, line: int, reason: str, detail: str = "", told: Optional[str] = None) -> None:
+    def unmapped(self, file: str, line: int, reason: str, detail: str = "") -> None:
         """Something that has no form in a trace, and can be left out."""
-        if self.skip:
-            self.left_out[reason] += 1
+        if self.is_strict:
+            self.refuse(file, line, ("%s: %s" % (reason, detail) if detail else reason) + HINT)
         else:
-            self.refuse(file, line, (told or ("%s: %s" % (reason, detail) if detail else reason)) + HINT)
+            self.left_out[reason] += 1
+            self.first_left_out.setdefault(reason, "%s:%d%s" % (file, line, ": " + detail if detail else ""))
+
+    def unmapped_tuple(self, file: str, line: int, reason: str, given: "Relationship", is_base: bool) -> None:
+        """A tuple that has no form in a trace; the userset that has it is in doubt."""
+        self.unmapped(file, line, reason, str(given))
+        self.doubt(*given[:3])
+        self.has_older |= is_base
 
     def unmapped_check(self, event: "Entry", cause: str, detail: str = "") -> None:
         """A check that is not audited, by a cause of `causes`; a version that it issued is left out with it."""
@@ -154,11 +175,22 @@ class Refusals:
     def coverage(self, checks: int, in_part: Counter[str], since: Optional[int], until: Optional[int]) -> Coverage:
         """The sum of an import, by the checks of its trace, those in part, and the times of the first and the last check."""
         return Coverage(checks, counted(in_part), counted(self.not_audited), counted(self.lost), self.uncounted,
-                        self.dark, since, until, self.open, self.last_file)
+                        self.dark, since, until, self.open, self.last_file, OTHER_RULES if self.has_other_rules else None, self.elsewhere)
+
+    def told(self) -> Iterator[str]:
+        """How the input is read, what was passed over and left out, and what is not audited."""
+        yield from self.notes.values()
+        for reason, count in sorted(self.passed.items()):
+            yield "passed over %d: %s" % (count, reason)
+        for reason, count in sorted(self.left_out.items()):
+            first = self.first_left_out.get(reason)
+            yield "left out %d: %s%s" % (count, reason, "" if first is None else ", first at " + first)
+        for cause, first in sorted(self.firsts.items()):
+            yield "not audited: %s, first at %s" % (cause, first)
 
     def doubt(self, of: str, id_text: Optional[str], relation: str) -> None:
         """A userset (without an id: a relation) whose tuples or rule are left out."""
-        if self.skip:
+        if not self.is_strict:
             self.doubts.append((of, id_text, relation))
 
     def lines(self) -> list[str]:

@@ -38,14 +38,19 @@ def nested(form: str, children: list[dict[str, Any]]) -> dict[str, Any]:
     return {form: children}
 
 
+Users = set[tuple[str, Optional[str]]]
+
+
 class ServiceRules(NamedTuple):
     """The rules of a model or schema, its id, and which users a relation takes: (type, relation or None)."""
 
     event: Event
     id: Optional[str]
-    takes: dict[tuple[str, str], set[tuple[str, Optional[str]]]]
+    takes: dict[tuple[str, str], Users]
     # other rules that are known, of which it is not said when they were in force
     others: "tuple[ServiceRules, ...]" = ()
+    # the users that a relation takes with a condition, a caveat or an expiration alone
+    conditional: Mapping[tuple[str, str], Users] = {}
 
 
 def tuplesets_of(event: Event) -> set[tuple[str, str]]:
@@ -72,6 +77,9 @@ class Answer(NamedTuple):
     reply: bool
     unmapped: Optional[str]
 
+
+# Whether a check sees such a tuple, services do not say.
+WITHOUT_CONDITION = "tuple without the condition that the rules demand"
 
 # A decision of which it can't be read what it was, and what is told of it.
 MANY = "one of several of this line"
@@ -156,6 +164,7 @@ class Log:
     def __init__(self, rules: ServiceRules, base_at: Any, refusals: Refusals):
         self.rules, self.base_at, self.refusals = rules, base_at, refusals
         self.joining = printed.Joining()
+        self.conditional = [rules.conditional]
 
     @staticmethod
     def read_base(text: str) -> Any:
@@ -191,6 +200,7 @@ class Log:
         """Lets relations take what these rules let them, too; which were in force for a tuple, the order of lines does not say."""
         for name, taken in rules.takes.items():
             self.rules.takes.setdefault(name, set()).update(taken)
+        self.conditional.append(rules.conditional)
 
     def look_of(self, said: Said) -> Optional[Look]:
         """What a check looked at, by the values of a line of a usual shape, as `moment` has it; None where it has none."""
@@ -270,7 +280,7 @@ class Log:
             return given
         kept = self.refusals, self.joining
         try:
-            self.refusals, self.joining = Refusals(self.refusals.skip), printed.Joining()
+            self.refusals, self.joining = Refusals(self.refusals.is_strict), printed.Joining()
             pairing = Pairing(self.joining, given, partial(self._full, reader.path), reader.ends)
             read, *others = reader.pieces(block, pairing.full, pairing if has_steps(block) else None)
             # A key of new rules may be written in another way.
@@ -425,12 +435,17 @@ class Log:
                 raise Bad(key.said())
 
     def put(self, event: Event, given: Relationship, live: bool, reason: Optional[str]) -> bool:
-        """Adds a tuple to a write; one that is not mapped, for this reason or another, is left out or refused."""
-        if reason is None and not self.may_store(given):
-            reason = self.NOT_TAKEN
-        if reason:
-            self.refusals.unmapped(event.file, event.line, reason, str(given))
-            self.refusals.doubt(*given[:3])
-            return False
-        (event.add if live else event.remove).append(given)
-        return True
+        """Adds a tuple to a write; one that has no form in a trace, for this reason or another, is left out, and so is its deletion."""
+        is_taken = self.may_store(given)
+        if live and not is_taken and reason is None:
+            user = given.user_type, given.user_relation
+            is_conditional = any(user in one.get((given.type, given.relation), ()) for one in self.conditional)
+            reason = WITHOUT_CONDITION if is_conditional else self.NOT_TAKEN
+            if not is_conditional:
+                self.refusals.has_other_rules = True
+                self.refusals.untaken.setdefault(((given.type, given.relation), user), (event.file, event.line))
+        if live and reason:
+            self.refusals.unmapped_tuple(event.file, event.line, reason, given, event.base)
+        elif live or is_taken:
+            (event.add if live else event.remove).append(given)
+        return not (live and reason)

@@ -149,6 +149,10 @@ class SpiceDbLog(Log):
 
     def placed(self, lines: Lines, skew: Optional[int]) -> Lines:
         """Numbers for the snapshots of PostgreSQL; a log has either those or numbers."""
+        for (name, user), (path, line) in self.refusals.untaken.items():
+            if user in self.rules.takes.get(name, ()):
+                self.refusals.refuse(path, line, "the WriteSchema that lets %s#%s take this stands behind it, or in a file that is given behind "
+                                     "this one: give that file first" % name)
         self.refuse_unseen(lines)
         self._refuse_deleted(lines)
         self._refuse_late_starts(lines)

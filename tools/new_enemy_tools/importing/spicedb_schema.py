@@ -13,6 +13,9 @@ from new_enemy_tools.rules import children_of, form_of
 TOKEN = re.compile(r"(?P<space>[ \t\r\n]+|//[^\n]*|/\*.*?\*/)|(?P<word>[A-Za-z_][A-Za-z0-9_]*(?:/[A-Za-z_][A-Za-z0-9_]*)*)"
                    r"|(?P<sign>->|\.\.\.|[{}()=|#:+&\-*;,.])|(?P<other>\"(?:[^\"\\\n]|\\.)*\"|'(?:[^'\\\n]|\\.)*'|.)", re.S)
 STARTS = ("relation", "permission", "definition", "caveat", "use", "partial", "import", "}")
+# What changes no answer, or is seen where it stands; and what puts texts together.
+USES = ("expiration", "self", "typechecking")
+PARTS = ("import", "partial")
 OPERATORS = {"+": "union", "&": "intersection", "-": "exclusion"}
 BINDING = ("-", "&", "+")
 
@@ -71,9 +74,7 @@ class Parser:
         self.takes: dict[tuple[str, str], set[tuple[str, Optional[str]]]] = {}
         self.arrows: list[tuple[str, str, str, int]] = []
         self.reads: list[tuple[str, str, str, int]] = []
-        # those that the schema has, and those that some relation takes subjects with
-        self.caveats: list[Token] = []
-        self.with_caveats: set[str] = set()
+        self.conditional: dict[tuple[str, str], set[tuple[str, Optional[str]]]] = {}
 
     # Tokens
 
@@ -117,16 +118,19 @@ class Parser:
                 if token.text == "definition":
                     self.definition()
                 elif token.text == "caveat":
-                    self.caveats.append(self.tokens[self.at + 1])
                     self.skip_block()
-                elif token.text == "partial":
-                    self.refusals.unmapped(self.path, token.line, token.text, self.tokens[self.at + 1].text)
-                    self.skip_block()
-                elif token.text == "use" and self.tokens[self.at + 1].text == "typechecking":
-                    self.at += 2
-                elif token.text in ("use", "import"):
+                elif token.text in PARTS:
+                    self.refusals.refuse(self.path, token.line, "`%s`: give the schema as one text, as `zed schema compile` makes it" % token.text)
+                    if token.text == "partial":
+                        self.skip_block()
+                    else:
+                        self.next()
+                        self.next()
+                elif token.text == "use":
                     self.next()
-                    self.refusals.unmapped(self.path, token.line, "%s %s" % (token.text, self.next().text))
+                    name = self.next()
+                    if name.text not in USES:
+                        self.refusals.refuse(self.path, token.line, "use %s: only %s are known" % (name.text, ", ".join(USES)))
                 elif token.text == ";":
                     self.next()
                 else:
@@ -135,12 +139,9 @@ class Parser:
                 self.refusals.refuse(self.path, fault.line, str(fault))
                 self.next()
                 self.skip_to_start()
-        for caveat in self.caveats:
-            if caveat.text in self.with_caveats:
-                self.refusals.unmapped(self.path, caveat.line, "caveat", caveat.text)
         self._refuse_unknown()
         refuse_wild_tuplesets(self.rules, self.takes, self.refusals)
-        return ServiceRules(self.rules, None, self.takes)
+        return ServiceRules(self.rules, None, self.takes, conditional={name: users - self.takes[name] for name, users in self.conditional.items()})
 
     def definition(self) -> None:
         self.take("definition")
@@ -173,18 +174,18 @@ class Parser:
     def relation(self, of: str) -> RelationRule:
         name = self.word("the name of a relation")
         self.take(":")
-        users = self.takes[of, name.text] = set()
+        for users in self.takes, self.conditional:
+            users[of, name.text] = set()
         while True:
-            user = self.user("%s#%s" % (of, name.text))
-            if user:
-                users.add(user)
+            user, is_conditional = self.user()
+            (self.conditional if is_conditional else self.takes)[of, name.text].add(user)
             if self.here().text != "|":
                 return RelationRule(name.text, {"this": {}}, name.line)
             self.next()
 
-    def user(self, where: str) -> Optional[tuple[str, Optional[str]]]:
-        """A type that a relation takes; None where it is not mapped."""
-        name, relation, unmapped = self.word("a type"), None, []
+    def user(self) -> tuple[tuple[str, Optional[str]], bool]:
+        """A type that a relation takes, and whether with a caveat or an expiration."""
+        name, relation = self.word("a type"), None
         if self.here().text == "#":
             self.next()
             token = self.next()
@@ -195,15 +196,11 @@ class Parser:
             self.next()
             self.take("*")
             relation = EVERY
-        if self.here().text == "with":
-            while self.here().text in ("with", "and"):
-                self.next()
-                trait = self.word("a caveat or expiration").text
-                unmapped.append("expiration" if trait == "expiration" else "caveat")
-                self.with_caveats.add(trait)
-        for reason in unmapped:
-            self.refusals.unmapped(self.path, name.line, reason, "%s of %s" % (name.text, where))
-        return None if unmapped else (name.text, relation)
+        is_conditional = self.here().text == "with"
+        while self.here().text in ("with", "and") and is_conditional:
+            self.next()
+            self.word("a caveat or expiration")
+        return (name.text, relation), is_conditional
 
     def permission(self, of: str) -> RelationRule:
         name = self.word("the name of a permission")

@@ -16,12 +16,15 @@ BEFORE = -1
 
 
 class Wildcards:
-    """The types whose users some tuple names all at once."""
+    """The types whose users some tuple names all at once; without lines such tuples have no form, since later lines name other users."""
 
-    def __init__(self, lines: Lines):
+    def __init__(self, lines: Optional[Lines]):
         self.first: Union[Event, WriteRow, None] = None
+        self.have_form = lines is not None
         self.tuples = 0
         self.users: dict[str, dict[Relationship, None]] = {}
+        if lines is None:
+            return
         taken = {name for event in lines.rules for name in event.namespaces}
         self.namespace = NAMESPACE
         while self.namespace in taken:

@@ -8,7 +8,7 @@ import json
 from hashlib import blake2b
 from typing import Any, NamedTuple, Optional
 
-from new_enemy_tools.effects import MEANT, Told
+from new_enemy_tools.effects import MEANT, RatedFinding
 from new_enemy_tools.forms import row_of, sentence
 from new_enemy_tools.meaning import Outgrown
 from new_enemy_tools.monitoring.run import Run
@@ -43,7 +43,7 @@ class Story:
     def count(self) -> int:
         return self.before + self.here
 
-    def take(self, told: Told) -> None:
+    def take(self, told: RatedFinding) -> None:
         """Counts a request once, whatever its findings are; these come one behind the other."""
         source = told.entry.source or str(told.entry.line)
         if source != self._last:
@@ -107,7 +107,7 @@ class Stories:
         return {key: Known(one.alert, one.id, one.count, one.told) for key, one in self.stories.items() if one.here}
 
 
-def key_of(run: Run, told: Told) -> str:
+def key_of(run: Run, told: RatedFinding) -> str:
     """What a story is known by in any run over the same log."""
     entry, change = told.entry, run.change_of(told)
     by = (change and change.revision) if told.outcome is not None else told.finding.finding
@@ -115,7 +115,7 @@ def key_of(run: Run, told: Told) -> str:
     return blake2b(json.dumps(parts).encode(), digest_size=8).hexdigest()
 
 
-def text_of(run: Run, telling: Telling, told: Told) -> Row:
+def text_of(run: Run, telling: Telling, told: RatedFinding) -> Row:
     """What is told of a finding."""
     row = row_of(telling, told)
     row["asked"] = row.pop("kind")
@@ -129,7 +129,7 @@ def text_of(run: Run, telling: Telling, told: Told) -> Row:
     return {key: value for key, value in made.items() if value is not None}
 
 
-def _title(run: Run, told: Told, user: str) -> str:
+def _title(run: Run, told: RatedFinding, user: str) -> str:
     finding = "%s %s" % (told.finding.finding, told.finding.text)
     if told.outcome is None:
         return "%s: %s" % (finding, MEANT[told.effect.word])
@@ -137,7 +137,7 @@ def _title(run: Run, told: Told, user: str) -> str:
     return plain("%s%s was %s: %s %s" % (user, new, told.outcome, run.names.tuple(told.entry.goal), finding))
 
 
-def _story(run: Run, told: Told) -> Row:
+def _story(run: Run, told: RatedFinding) -> Row:
     teller = Teller(run.trace, run.names)
     try:
         story = teller.story(told)

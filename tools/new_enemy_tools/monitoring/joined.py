@@ -89,7 +89,7 @@ def _is_of(row: Row, revision: Optional[int]) -> bool:
 
 def rows_of(chunk: Chunk) -> list[tuple[Row, int]]:
     """The lines with their sizes; raises MonitorFault or JoinFault where one can't be read."""
-    found, refusals = [], Refusals(True, True)
+    found, refusals = [], Refusals(is_chained=True)
     for number, raw in enumerate(chunk.data.splitlines(True), chunk.first):
         row = Row(chunk.file, number, value_of(raw, chunk.file, number))
         for _ in read_events([(number, row.value)], chunk.file, refusals):

@@ -12,17 +12,17 @@ from typing import Any, Iterable, NamedTuple, Optional
 
 from new_enemy_tools.faults import DeviceFault
 from new_enemy_tools.monitoring.core import BeginAnew, Core, EndRun, Feed, Keep, Out, Settings
+from new_enemy_tools.monitoring.exposition import Before, exposition
 from new_enemy_tools.monitoring.faults import MonitorFault
 from new_enemy_tools.monitoring.follower import Ended, Follower, Said
 from new_enemy_tools.monitoring.holding import Holding
-from new_enemy_tools.monitoring.journal import Journal
 from new_enemy_tools.monitoring.joined import STATE, JoinedLog, Several
-from new_enemy_tools.monitoring.kept import RunFile, keep, start_of
+from new_enemy_tools.monitoring.journal import Journal
+from new_enemy_tools.monitoring.live_page import SILENT, Live, live_of, page_of
 from new_enemy_tools.monitoring.marks import Mark
-from new_enemy_tools.monitoring.numbers import Before, exposition
-from new_enemy_tools.monitoring.page import SILENT, Live, live_of, page_of
 from new_enemy_tools.monitoring.receivers import Answered, Receiver, Teller
 from new_enemy_tools.monitoring.run import Run
+from new_enemy_tools.monitoring.run_files import RunFile, keep, start_of
 from new_enemy_tools.monitoring.tail import Tail
 from new_enemy_tools.recording.metrics import MetricsServer
 from new_enemy_tools.recording.sketches import JOINED

@@ -5,28 +5,28 @@ from collections import Counter, deque
 from typing import Callable, NamedTuple, Optional
 
 from new_enemy_tools.coverage import NO_LINES, Coverage, lines_in
-from new_enemy_tools.effects import Told
+from new_enemy_tools.effects import RatedFinding
+from new_enemy_tools.entries import Commit
 from new_enemy_tools.findings import ON_TOKENS, Finding, Report, finding_of
 from new_enemy_tools.ids import Ids
 from new_enemy_tools.importing import causes
 from new_enemy_tools.importing.going_on import Left
-from new_enemy_tools.kept import Commit
+from new_enemy_tools.labels import Labels, labels_in
 from new_enemy_tools.limits import LINE_BYTES
-from new_enemy_tools.looked import Looked, looked_in
 from new_enemy_tools.monitoring.faults import MonitorFault
 from new_enemy_tools.monitoring.holding import CHECKS, time_of
 from new_enemy_tools.monitoring.stream import Chunk, Stream
 from new_enemy_tools.names import Names
-from new_enemy_tools.order import ignored
 from new_enemy_tools.telling import Telling, telling_of, told_of
+from new_enemy_tools.token_order import ignored
 from new_enemy_tools.trace import Refusal, Trace
 from new_enemy_tools.trace_lines import CHECK_START, CONTENT_START, is_utf8
+from new_enemy_tools.windowing.audited_window import OwnCounts, refuse_twice
 from new_enemy_tools.windowing.carrying import Carry, Keep, Window, carried
-from new_enemy_tools.windowing.reading import Numbers, carried_lines, strata_in, with_strata
-from new_enemy_tools.windowing.run import OwnCounts, refuse_twice
 from new_enemy_tools.windowing.scanning import scan
 from new_enemy_tools.windowing.state import Row, State
-from new_enemy_tools.windowing.telling import text_of
+from new_enemy_tools.windowing.window_bytes import Numbers, carried_lines, strata_in, with_strata
+from new_enemy_tools.windowing.window_report import text_of
 
 THROUGH = re.compile(r"through line ([0-9]+): ([0-9]+) entries, ([0-9]+) findings, ([0-9]+) open")
 LAST = re.compile(r"(?:entries|findings|verdict) .*")
@@ -84,7 +84,7 @@ class Run:
         self.names = Names(begun.ids)
         self.through = Through(0, 0, 0)
         self.findings = 0
-        self.counts = OwnCounts(NO_LINES, Looked(0, 0, 0))
+        self.counts = OwnCounts(NO_LINES, Labels(0, 0, 0))
         # the trace's own bytes
         self.bytes = 0
         # what is not settled yet
@@ -132,7 +132,7 @@ class Run:
     def _see(self, text: bytes) -> None:
         before, window = self.window.lines + 1, self.window
         window.take_bytes(text)
-        self.counts = OwnCounts(self.counts.lines.plus(lines_in(text)), self.counts.looked.plus(looked_in(text)))
+        self.counts = OwnCounts(self.counts.lines.plus(lines_in(text)), self.counts.labels.plus(labels_in(text)))
         scanned = scan(window.old.head.base, window.old.head.last, text)
         window.take(scanned)
         if window.bad:
@@ -220,7 +220,7 @@ class Run:
         for finding in findings:
             self._keep_entry(finding.line)
         report = Report(findings, len(self.trace.entries), "dirty")
-        return telling_of(told_of(self.trace, report), self.trace, self.names, "the trace", report, Looked(0, 0, 0),
+        return telling_of(told_of(self.trace, report), self.trace, self.names, "the trace", report, Labels(0, 0, 0),
                           Coverage())
 
     def _keep_entry(self, line: int) -> None:
@@ -281,7 +281,7 @@ class Run:
     def waiting(self) -> int:
         return len(self._waiting)
 
-    def change_of(self, told: Told) -> Optional[Commit]:
+    def change_of(self, told: RatedFinding) -> Optional[Commit]:
         """The change that a reply ignored, as it stands in the log."""
         place = None if told.change is None else self.trace.commits.place_at(told.change.at)
         return None if place is None else self.trace.commits[place]

@@ -80,7 +80,7 @@ class Stream(Core):
     def __init__(self, ids: Ids, before: Optional[Left], state: State, has_between: bool):
         """`has_between` says whether checks may have looked at any state between two, as those of OpenFGA."""
         goes_on = GoesOn(SERVICE, "the log", before, None if before is None else state)
-        super().__init__(ids, None, Refusals(True, True), Progress(), goes_on)
+        super().__init__(ids, None, Refusals(is_chained=True), Progress(), goes_on)
         self.has_between, self.total = has_between, Counts()
         # whether lines were taken, and whether some of the trace were written
         self.is_begun = self.is_written = False
@@ -134,7 +134,7 @@ class Stream(Core):
         if before is None and facts.last_base < 0:
             raise MonitorFault("the log has no base state at its beginning; give the whole folder of a recorder's log")
         facts.has_between |= self.has_between
-        base = self._begin(lines, Wildcards(lines), None, self.refusals)
+        base = self._begin(lines, Wildcards(None), None, self.refusals)
         if before is not None and goes_on is not None and goes_on.state is not None and self.has_between:
             self.oldest = going_on.take_states(self.taken.states, before, goes_on.state)
         self.commits_before = len(self.taken.states.revisions)
@@ -225,10 +225,7 @@ class Stream(Core):
     def told(self) -> Iterator[str]:
         """As an import of all lines says it."""
         written = Written(iter(()), self.total, lambda: iter(() if not self.is_begun else self.taken.states.told()))
-        yield from self.refusals.notes.values()
-        for verb, counts in (("passed over", self.refusals.passed), ("left out", self.refusals.left_out)):
-            for reason, count in sorted(counts.items()):
-                yield "%s %d: %s" % (verb, count, reason)
+        yield from self.refusals.told()
         yield from written.told(self.coverage())
 
     def leave(self) -> Left:

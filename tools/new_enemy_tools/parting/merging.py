@@ -20,7 +20,7 @@ class Answer(NamedTuple):
     error: str
 
 
-class Told(NamedTuple):
+class ReportLine(NamedTuple):
     """A line of a report; in order they stand as in the whole's."""
 
     line: int
@@ -89,7 +89,7 @@ def _rendered(lines: list[str], entries: int) -> str:
         entries, len(lines), "dirty" if lines else "clean")
 
 
-def _told(report: PartReport) -> list[Told]:
+def _told(report: PartReport) -> list[ReportLine]:
     """The lines of a part's report, which has to be as the program writes it."""
     text = report.output.decode("utf-8", "replace")
     try:
@@ -97,7 +97,7 @@ def _told(report: PartReport) -> list[Told]:
     except ReportFault as fault:
         raise PartsFault("%s: %s" % (report.name, fault)) from None
     lines = text.split("\n")[:len(read.findings)]
-    told = [Told(found.line, int(found.finding[1:]), report.part, line) for found, line in zip(read.findings, lines)]
+    told = [ReportLine(found.line, int(found.finding[1:]), report.part, line) for found, line in zip(read.findings, lines)]
     if _rendered(lines, read.entries) != text or any(one[:2] >= other[:2] for one, other in zip(told, told[1:])):
         raise PartsFault("%s: its report is not as the program writes it" % report.name)
     if report.status != (1 if told else 0) or report.error:
@@ -108,7 +108,7 @@ def _told(report: PartReport) -> list[Told]:
     return told
 
 
-def _disjoint(told: Iterable[Told]) -> Iterator[str]:
+def _disjoint(told: Iterable[ReportLine]) -> Iterator[str]:
     """The texts; each line of the trace stands in one part."""
     line = part = 0
     for one in told:

@@ -8,7 +8,7 @@ from hashlib import blake2b
 from typing import Optional
 
 from new_enemy_tools import texts
-from new_enemy_tools.trace import is_u64
+from new_enemy_tools.strictjson import is_u64
 from new_enemy_tools.trace_lines import value_in
 
 EVERYWHERE = 0

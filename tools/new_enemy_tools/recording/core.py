@@ -11,13 +11,13 @@ from typing import Any, Callable, Iterable, Iterator, NamedTuple, Optional, Prot
 from new_enemy_tools.importing.reading import Bad
 from new_enemy_tools.importing.service import Answer
 from new_enemy_tools.importing.times import nanoseconds
-from new_enemy_tools.recording.lines import gap_line, line, time_text, unmapped_line
-from new_enemy_tools.recording.log_files import Left, Place
+from new_enemy_tools.recording.lines import elsewhere_line, gap_line, line, time_text, unmapped_line
+from new_enemy_tools.recording.log_files import Doubts, Left, Place
 from new_enemy_tools.recording.messages import CHECKS, Beat, Bye, Ended, Lost, Started
 from new_enemy_tools.recording.sequencer import Commit, Ready, Sequencer
 
 FOREVER = 1 << 63
-# Gaps behind the first one are told together, so often.
+# Gaps behind the first one are told together, so often, and checks of other stores.
 TOGETHER = 10 ** 9
 # So many causes are told apart, and so much of one is told: what stands in some comes from a client.
 CAUSES, LONGEST = 1000, 200
@@ -82,6 +82,10 @@ class Service(Protocol):
     def late(self, before: int) -> list[Ended]:
         """Takes out the calls that have waited for the feed since before a time."""
 
+    @property
+    def doubts(self) -> Doubts:
+        """The tuples of which it is not known whether they are there."""
+
 
 class Gaps:
     """What the log has not, told together where it goes on; the first at once, so that it stands before all that hangs on it."""
@@ -124,10 +128,13 @@ class Core:
         # how many decisions stand in the log, and how many were lost, by cause
         self.recorded = 0
         self.lost: Counter[str] = Counter()
-        # how many calls were of other stores than the one that is recorded
-        self.elsewhere = 0
+        # how many calls were of other stores than the one that is recorded; and how many of them, which are no gap, no line has told, and when
+        # one did
+        self.elsewhere = self.untold = self.told_at = 0
         self.ticks = 0
+        # what an earlier recorder left, and whether there was none
         self.left: Optional[Left] = None
+        self.is_first = True
         self.place = Place(None, 0, None)
         # the checks without an answer, and those with one that are neither in the log nor in a gap yet
         self.asked: dict[int, Asked] = {}
@@ -206,7 +213,7 @@ class Core:
     def begin_log(self, message: Begun) -> None:
         """The log goes on: the time before it is a gap, but for a log that begins with an empty store."""
         lost = self.gaps.take()
-        gap = self._gap_before(lost) if self.left is not None or lost or not message.is_empty else b""
+        gap = b"" if self.is_first and message.is_empty and not lost else self._gap_before(lost)
         self.first = chain([gap], message.data, [place_line(message.place)])
         self.place, self.is_ready = message.place, True
         self.say("recording")
@@ -252,6 +259,16 @@ class Core:
         if self.is_ready:
             self.unsaid.append(self.gaps.lines(self.now, at_once))
 
+    def pass_elsewhere(self) -> None:
+        """A call is of another store, and no gap."""
+        self.elsewhere += 1
+        self.untold += 1
+
+    def _say_elsewhere(self) -> None:
+        if self.untold:
+            self.unsaid.append(elsewhere_line(self.untold, self.now.wall))
+            self.untold, self.told_at = 0, self.now.clock
+
     def forget(self, number: int) -> None:
         """Of a call nothing more is to be written."""
         self.held.pop(number, None)
@@ -292,6 +309,8 @@ class Core:
             self.forget(message.number)
             self.lose(behind, message.begun)
         self._say_gaps(False)
+        if now.clock - self.told_at >= TOGETHER:
+            self._say_elsewhere()
 
     def drained(self) -> bytes:
         """The lines that can be written now; `place` is then where the changes are behind them."""
@@ -307,6 +326,9 @@ class Core:
                 made.append(one.data)
                 self.recorded += one.data.count(b"\n")
                 self.held.pop(one.call, None)
+        if self.is_ready and self.service.doubts != self.place.doubts:
+            self.place = self.place._replace(doubts=self.service.doubts)
+            made.append(place_line(self.place, True))
         return b"".join(made)
 
     # The end
@@ -325,6 +347,7 @@ class Core:
         self.now = now
         if self.elsewhere:
             self.say("checks of other stores, which are not recorded: %d" % self.elsewhere)
+        self._say_elsewhere()
         self.sequencer.ready = []
         self._lose_open(self.held, "the recorder ended before the changes that these needed")
 
@@ -349,16 +372,16 @@ def _moved(place: Place, commit: Commit) -> Place:
     """Where the changes are behind a commit."""
     rules = commit.rules or place.rules
     if commit.cursor is not None:
-        return Place(commit.cursor, commit.revision, rules, commit.behind, commit.apart, place.store)
-    return Place(place.cursor, commit.revision, rules, place.behind + (0 if commit.rules else commit.changes), place.apart, place.store)
+        return place._replace(cursor=commit.cursor, revision=commit.revision, rules=rules, behind=commit.behind, apart=commit.apart)
+    return place._replace(revision=commit.revision, rules=rules, behind=place.behind + (0 if commit.rules else commit.changes))
 
 
 def _reason(fault: Exception) -> str:
     return str(fault)[:LONGEST] if isinstance(fault, Bad) else "a line can't be understood (%s)" % type(fault).__name__
 
 
-def place_line(place: Place) -> bytes:
-    return line("place", **place.keys)
+def place_line(place: Place, has_doubts: bool = False) -> bytes:
+    return line("place", **place.keys, doubts=place.doubts if has_doubts else None)
 
 
 def refuse_headers(message: Ended, answers: list[Answer]) -> None:

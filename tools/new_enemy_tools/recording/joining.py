@@ -154,7 +154,7 @@ def _bearing(sketches: list[Sketch]) -> Bearing:
             takes.setdefault((one.type, one.relation), set()).add((one.user_type, one.user_relation))
     for sketch in sketches:
         rules = [sketch.rules, *(change.value for step in sketch.steps for change in step if change.is_rules)]
-        for event in read_events(((1, one) for one in rules), sketch.given.name, Refusals(True)):
+        for event in read_events(((1, one) for one in rules), sketch.given.name, Refusals()):
             assert isinstance(event, Event)
             found.add(ServiceRules(event, None, takes))
     return found

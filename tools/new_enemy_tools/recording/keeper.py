@@ -90,7 +90,7 @@ class Keeper:
     def run(self) -> int:
         threading.Thread(target=self._read_proxy, daemon=True).start()
         try:
-            self.core.left = self._opened()
+            self._open()
             threading.Thread(target=self._read_feed, args=(self.core.left,), daemon=True).start()
             self._keep()
             self._end_log()
@@ -159,12 +159,17 @@ class Keeper:
                 self._put(Faulty("the changes can't be read: %s" % (str(fault) or type(fault).__name__)))
             time.sleep(0.5)
 
-    def _opened(self) -> Optional[Left]:
-        """Waits for the folder, however long another recorder has it, and closes what was left in it."""
+    def take_over(self) -> None:
+        """Takes the folder, and closes what was left in it; raises InUse or LogFault."""
+        self.log.lock()
+        self.core.left, self.core.is_first = self.log.recover(), self.log.is_first
+
+    def _open(self) -> None:
+        """Waits for the folder, however long another recorder has it."""
         while True:
             try:
-                self.log.lock()
-                return self.log.recover()
+                self.take_over()
+                return
             except InUse:
                 self.say("another recorder writes to %s; waiting for it" % self.settings.folder)
             except LogFault as fault:

@@ -70,7 +70,12 @@ def gap_line(start: Optional[int], end: int, reason: str, lost: int = 0) -> byte
     return line("gap", **{"from": None if start is None else time_text(start)}, to=shown, reason=reason, lost=lost or None, time=shown)
 
 
+def elsewhere_line(count: int, now: int) -> bytes:
+    """Checks of other stores, of which somebody said that they are no concern."""
+    return line("elsewhere", count=count, time=time_text(now))
+
+
 def unmapped_line(reason: str, detail: str = "", userset: Optional[Iterable[Optional[str]]] = None,
-                  version: Optional[Iterable[str]] = None) -> bytes:
+                  version: Optional[Iterable[str]] = None, base: bool = False) -> bytes:
     return line("unmapped", reason=reason, detail=detail or None, userset=None if userset is None else list(userset),
-                version=None if version is None else list(version))
+                version=None if version is None else list(version), base=base or None)

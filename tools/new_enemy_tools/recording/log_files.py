@@ -43,11 +43,15 @@ class InUse(Exception):
     """Another recorder writes to the folder."""
 
 
+# Tuples as a line has them; an empty one stands for all.
+Doubts = tuple[tuple[str, ...], ...]
+
+
 class Place(NamedTuple):
     """Where the changes of the service are: what it gave to go on by, the last revision, and the hash of the rules in force.
 
     `behind` is how many changes the log has that come again where the service goes on by that; those of the revisions `apart`, among the
-    last so many, do not. `store` is OpenFGA's, where that is known.
+    last so many, do not. `store` is OpenFGA's, where that is known. Of the tuples in `doubts` it is not known whether they are there.
     """
 
     cursor: Optional[str]
@@ -56,10 +60,11 @@ class Place(NamedTuple):
     behind: int = 0
     apart: tuple[int, ...] = ()
     store: Optional[str] = None
+    doubts: Doubts = ()
 
     @property
     def keys(self) -> dict[str, Any]:
-        """As it stands in a line."""
+        """As it stands in a line; the doubts only where they are others than before, and in the first of a file."""
         return {"cursor": self.cursor, "revision": self.revision, "rules_sha256": self.rules, "behind": self.behind or None,
                 "apart": list(self.apart) or None}
 
@@ -96,6 +101,8 @@ class LogFiles:
         self.before: Optional[str] = None
         self.place = Place(None, 0, None)
         self._lock: Optional[int] = None
+        # whether no recorder had the folder before
+        self.is_first = False
         self._begin_counts()
 
     def _begin_counts(self) -> None:
@@ -109,7 +116,10 @@ class LogFiles:
         """Keeps the folder for this recorder; raises InUse, or LogFault where there is no such folder."""
         try:
             os.makedirs(self.folder, exist_ok=True)
-            self._lock = self._lock or os.open(os.path.join(self.folder, "lock"), os.O_CREAT | os.O_RDWR, 0o600)
+            path = os.path.join(self.folder, "lock")
+            if self._lock is None:
+                self.is_first = not os.path.exists(path)
+                self._lock = os.open(path, os.O_CREAT | os.O_RDWR, 0o600)
             fcntl.flock(self._lock, fcntl.LOCK_EX | fcntl.LOCK_NB)
         except BlockingIOError:
             raise InUse from None
@@ -162,7 +172,7 @@ class LogFiles:
                 if kind in ("log", "feed"):
                     store = value.get("store")
                 if kind in ("log", "place"):
-                    place, writes = _place_of(value), 0
+                    place, writes = _place_of(value, place.doubts), 0
                     revision = place.revision
                 elif kind in ("write", "rules") and not value.get("base") and value.get("revision") is not None:
                     writes, revision = writes + (kind == "write"), value["revision"]
@@ -247,7 +257,7 @@ class LogFiles:
             raise LogFault(fault.strerror) from None
         self._begin_counts()
         head = line("log", number=self.number + 1, before=self.before, service=self.service, store=self.place.store,
-                    time=time_text(time.time_ns()), **self.place.keys)
+                    time=time_text(time.time_ns()), **self.place.keys, doubts=self.place.doubts or None)
         try:
             self._put(head)
         except LogFault:
@@ -354,8 +364,9 @@ def _value_of(raw: bytes) -> Optional[dict[str, Any]]:
     return value if isinstance(value, dict) else None
 
 
-def _place_of(value: dict[str, Any]) -> Place:
-    return Place(value.get("cursor"), value.get("revision", 0), value.get("rules_sha256"), value.get("behind", 0), tuple(value.get("apart", ())))
+def _place_of(value: dict[str, Any], doubts: Doubts) -> Place:
+    return Place(value.get("cursor"), value.get("revision", 0), value.get("rules_sha256"), value.get("behind", 0), tuple(value.get("apart", ())),
+                 doubts=tuple(map(tuple, value["doubts"])) if "doubts" in value else doubts)
 
 
 def _last_changes(paths: list[str], count: int) -> list[Known]:
@@ -367,8 +378,10 @@ def _last_changes(paths: list[str], count: int) -> list[Known]:
         listed: deque[Known] = deque((), count)
         with opened(path) as file:
             for raw in file:
-                value = _value_of(raw) if raw.startswith(b'{"event":"write"') else None
-                if value is not None and not value.get("base"):
+                value = _value_of(raw) if raw.startswith((b'{"event":"write"', b'{"event":"feed"')) else None
+                if value is not None and value["event"] == "feed":
+                    listed += [Known(given and tuple(given), live, 0) for given, live in value.get("last", ())]
+                elif value is not None and not value.get("base"):
                     given = (value.get("add") or value.get("remove") or [None])[0]
                     listed.append(Known(given and tuple(given), not value.get("remove"), value["revision"]))
         found = [*listed, *found]

@@ -23,8 +23,8 @@ from new_enemy_tools.recording.bearing import Bearing
 from new_enemy_tools.recording.bodies import UNHEARD, request_of, response_of
 from new_enemy_tools.recording.core import FULL, WAITING, Asked, Begun, Core
 from new_enemy_tools.recording.grpc_calls import GRPC
-from new_enemy_tools.recording.lines import ODD, Came, line, time_text, unmapped_line, write_line
-from new_enemy_tools.recording.log_files import Left, Place
+from new_enemy_tools.recording.lines import ODD, Came, line, time_text, tuple_list, unmapped_line, write_line
+from new_enemy_tools.recording.log_files import Doubts, Left, Place
 from new_enemy_tools.recording.messages import Ended, Started
 from new_enemy_tools.recording.openfga_messages import MESSAGES
 from new_enemy_tools.recording.overlap import Change, Read
@@ -68,8 +68,8 @@ def refuse_unknown(path: str, request: object) -> None:
 
 
 class Base(NamedTuple):
-    """What the feed begins with, from and to when it was read: what is stored, or where an earlier log is left the changes that it does
-    not have."""
+    """What the feed begins with, from and to when it was read: what is stored, and the last changes in that; or where an earlier log is left
+    the changes that it does not have."""
 
     store: Optional[str]
     left: Optional[Left]
@@ -167,6 +167,8 @@ class OpenFga:
         self.live: dict[Relationship, bool] = {}
         # tuples of which it is not known whether they are there, and why; and until when their changes may have come
         self.tainted: dict[Optional[Relationship], Taint] = {}
+        # these as a line has them, for the recorder that goes on
+        self.doubts: Doubts = ()
         # of each change its time, or the latest before it, and its revision
         self.times: list[int] = []
         self.stands: list[int] = []
@@ -199,30 +201,32 @@ class OpenFga:
         self.store, self.places = base.store, Places(left.revision if left else 0)
         rules = ruled(base.rules, base.refusals, self.places.revision + 1, left is None)
         self._take_names(rules.rules)
+        is_empty = not base.stored.count and not base.changes
+        self.is_from_empty = left is None and is_empty
+        place = Place(None, 0, rules.hash) if left is None else left.place
         lines: list[bytes] = []
-        if left is None:
-            self.is_from_empty = not base.stored.count
-        else:
-            for change in base.changes:
-                self.places.add([Row(0, base.received, change)])
-                lines.append(self._line(change, self.places.revision, self._came(None, base.received, core)))
-            if left.place.rules != rules.hash:
-                self.places.add([Row(0, base.received)])
-                lines.append(ruled(base.rules, base.refusals, self.places.revision, False, self._came(None, base.received, core)).data)
+        for change in base.changes if left else ():
+            self.places.add([Row(0, base.received, change)])
+            lines.append(self._line(change, self.places.revision, self._came(None, base.received, core)))
+        if place.rules != rules.hash:
+            self.places.add([Row(0, base.received)])
+            lines.append(ruled(base.rules, base.refusals, self.places.revision, False, self._came(None, base.received, core)).data)
         revision = self.places.revision
         self.models = [Model(rules.id or "", revision)]
         self.places = Places(revision, base.received)
         self.began, self.first = base.began, base.received
         core.sequencer.reached = revision
-        behind = left.writes + left.place.behind + len(base.changes) if left else 0
-        place = Place(base.cursor, revision, rules.hash, behind, left.place.apart if left else (), base.store)
-        is_empty = not base.stored.count and not base.changes
-        core.begin_log(Begun(lines if left else self._base_lines(rules.data, base.stored), is_empty, place))
+        behind = (left.writes if left else 0) + place.behind + len(base.changes)
+        self.tainted = {Relationship(*one) if one else None: Taint(ODD, base.received) for one in place.doubts}
+        self.doubts = place.doubts
+        place = Place(base.cursor, revision, rules.hash, behind, place.apart, base.store, place.doubts)
+        core.begin_log(Begun(lines if left else self._base_lines(rules.data, base), is_empty, place))
 
-    def _base_lines(self, rules: bytes, stored: Stored) -> Iterator[bytes]:
-        """The rules and the base state, which may be long."""
-        yield line("feed", store=self.store, changes=stored.count) + rules + b"".join(map(_unread_line, stored.odd))
-        yield from self.takes.base_lines(0, stored.items())
+    def _base_lines(self, rules: bytes, base: Base) -> Iterator[bytes]:
+        """The rules and the base state, which may be long; and the last changes in it, which come again where another recorder goes on."""
+        last = [[form, form is None or change.live] for change in base.changes for form in [change.form]]
+        yield line("feed", store=self.store, changes=base.stored.count, last=last or None) + rules + b"".join(map(_unread_line, base.stored.odd))
+        yield from self.takes.base_lines(0, base.stored.items())
 
     def _take_names(self, rules: ServiceRules) -> None:
         self.takes.add(rules)
@@ -378,7 +382,7 @@ class OpenFga:
     def _note(self, message: Ended) -> None:
         """What a write made that has its answer. Where it is no fault that a tuple is there, or is not, it may have made nothing."""
         asked = self.open.pop(message.number, message.clock - (message.at - message.begun))
-        if message.request is None or not 200 <= message.status < 300 or asked < self.first:
+        if message.request is None or message.response is None or not 200 <= message.status < 300 or asked < self.first:
             return
         request, keys = self._request(message), []
         for part, otherwise, live in ("writes", "on_duplicate", True), ("deletes", "on_missing", False):
@@ -457,12 +461,19 @@ class OpenFga:
             if len(self.tainted) > TAINTED:
                 # Too many to be told from others.
                 self.tainted = {None: taint}
+            self._tell_doubts()
+
+    def _tell_doubts(self) -> None:
+        self.doubts = tuple(() if one is None else tuple(tuple_list(one)) for one in self.tainted)
 
     def _clear(self, given: Relationship, row: Row) -> None:
         """A tuple has changed again: where that came behind all before, it is as this change says. Else it may be one that was missed between two."""
-        taint = self.tainted.pop(given, None)
+        taint = self.tainted.get(given)
         if taint is not None and row.low < taint.until:
             self.tainted[given] = taint._replace(until=max(taint.until, row.high))
+        elif taint is not None:
+            del self.tainted[given]
+            self._tell_doubts()
 
     # Calls
 
@@ -487,9 +498,10 @@ class OpenFga:
             return
         request = self._request(message)
         if request is None:
-            core.elsewhere += 1
             if not self.ignores:
+                core.elsewhere += 1
                 raise Bad(self.other_store)
+            core.pass_elsewhere()
         answers = [] if request is None else list(answers_of(request, response_of(message), UNHEARD))
         if not answers:
             core.forget(message.number)

@@ -91,13 +91,13 @@ class OpenFgaFeed:
             # Where little has changed lately, its changes would not tell.
             raise FeedFault("the log is of the store %s, and %s is to be recorded; begin a new log in another folder" % (
                 left.place.store, self.store), True)
-        began, back = time.monotonic_ns(), int(self.settings.overlap * 1e9)
-        overlap, stored, changes = Overlap(left.place.cursor if left else None, back), Stored(), list[Change]()
+        began, back, stored = time.monotonic_ns(), int(self.settings.overlap * 1e9), Stored()
         if left is None:
-            end = self._take_all(overlap, stored, back)
+            cursor, changes, end = self._take_all(stored, back)
         else:
-            changes, ends = self._changes(overlap.cursor)
-            end = ends[-1][1] if ends else overlap.cursor
+            cursor = left.place.cursor
+            changes, ends = self._changes(cursor)
+            end = ends[-1][1] if ends else cursor
         mark, number, rules = self._model()
         if rules is None:
             raise FeedFault("the store has no authorization model yet")
@@ -105,31 +105,26 @@ class OpenFgaFeed:
             refuse_unread(*rules)
         except Unread as fault:
             raise FeedFault(str(fault)) from None
-        received = time.monotonic_ns()
-        if left is None:
-            overlap.begin(overlap.shown, overlap.cursor, end, received)
-        else:
-            new = overlap.go_on(changes, left.changes, left.place.apart, end, received)
-            if new is None:
-                raise FeedFault("the changes do not show what the log has of them; begin a new log in another folder")
-            changes = new
-        put(Base(self.store, left, stored, changes, end if left is None else overlap.mark.cursor, *rules, began, received))
+        received, overlap = time.monotonic_ns(), Overlap(cursor, back)
+        new = overlap.go_on(changes, left.changes if left else [], left.place.apart if left else (), end, received)
+        if new is None:
+            raise FeedFault("the changes do not show what the log has of them; begin a new log in another folder")
+        put(Base(self.store, left, stored, new, cursor, *rules, began, received))
         self.overlap, self.model_mark, self.model_id = overlap, mark, number
 
-    def _take_all(self, overlap: Overlap, stored: Stored, back: int) -> Optional[str]:
-        """Takes all changes so far, and gives the token at their end; those that are so much older than the newest, by the times of the
-        service, are not kept."""
+    def _take_all(self, stored: Stored, back: int) -> tuple[Optional[str], list[Change], Optional[str]]:
+        """Stores all changes so far. Gives the token behind those that are so much older than the newest, by the times of the service; the
+        others, before which a commit may still come; and the token at the end."""
         pages: deque[tuple[list[Change], Optional[str]]] = deque()
-        newest, end = 0, None
+        newest, cursor, end = 0, None, None
         for page, end in self._pages(None):
             for change in page:
                 stored.take(change)
                 newest = max(newest, change.time)
             pages.append((page, end))
             while pages and pages[0][0][-1].time <= newest - back:
-                overlap.cursor = pages.popleft()[1]
-        overlap.shown = [change for page, _ in pages for change in page]
-        return end
+                cursor = pages.popleft()[1]
+        return cursor, [change for page, _ in pages for change in page], end
 
     def _read(self, began: int) -> Optional[Changes]:
         """All changes that there are, and the model where it is another; None where it shows less than one before."""
@@ -148,7 +143,7 @@ class OpenFgaFeed:
         """What tells the latest model from others, its id, and its rules where it is another than before; None where there is none."""
         mark, data = self.source.model(self.store, 1)
         models = [] if mark == self.model_mark else self.source.models(data)
-        refusals = Refusals(True)
+        refusals = Refusals()
         if not models:
             return mark, self.model_id, None
         return mark, get(models[0], "id"), (ModelReader("the model", refusals).rules(models[0]), refusals)

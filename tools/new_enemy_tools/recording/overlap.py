@@ -22,6 +22,11 @@ class Change:
         self.given, self.live, self.time, self.reason, self.userset = given, live, time, reason, userset
         self.revision, self.follows, self.is_late = 0, False, False
 
+    @property
+    def form(self) -> Optional[tuple[str, ...]]:
+        """The tuple as a line has it."""
+        return None if self.given is None or self.reason else tuple(tuple_list(self.given))
+
 
 class Known(NamedTuple):
     """A change that an earlier log has: its tuple as a line has it, None where it has no form, and its revision."""
@@ -63,16 +68,10 @@ class Overlap:
         self.since: list[tuple[int, Change]] = []
         self.reading = 0
 
-    def begin(self, changes: list[Change], cursor: Optional[str], end: Optional[str], received: int) -> None:
-        """The feed so far is known: its last changes, the token before them and that at their end."""
-        self.cursor, self.shown = cursor, list(changes)
-        self.mark = Mark(0, received, end, changes[-1] if changes else None)
-        self.marks.append(self.mark)
-
     def go_on(self, listed: list[Change], known: list[Known], apart: Iterable[int], end: Optional[str],
               received: int) -> Optional[list[Change]]:
-        """Behind the cursor come changes that an earlier log has, but for those of the revisions apart; and others, which are given.
-        None where some do not come."""
+        """Behind the cursor come changes that an earlier log has, but for those of the revisions apart; and others, which are given: all of them
+        where there is none. None where some do not come."""
         left: dict[tuple[Optional[tuple[str, ...]], bool], deque[int]] = {}
         others = set(apart)
         for one in known:
@@ -84,8 +83,9 @@ class Overlap:
                 left.setdefault((one.given, one.live), deque()).append(one.revision)
         new = []
         for change in listed:
-            form = None if change.given is None or change.reason else tuple(tuple_list(change.given))
-            found = left.get((form, change.live)) or left.get((None, change.live))
+            form = change.form
+            # A line without a tuple does not say whether one came or went.
+            found = left.get((form, change.live)) or left.get((None, True))
             if found:
                 change.revision = found.popleft()
                 self.since.append((0, change))

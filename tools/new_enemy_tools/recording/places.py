@@ -8,8 +8,8 @@ The log has one order of commits; of two whose times overlap it is not known whe
    request and its answer. Its changes with one time, side by side, are one commit; others are one each. Where a write has no answer yet,
    they are placed when it has one, or two seconds after it was asked.
 3. The log has the changes in the order in which they had surely come. Those of one tuple come and go by turns. Where one does not, or one is
-   shown later than another behind it, it is not known whether the tuple is there, until it changes again at a time that is surely later; a
-   log of the changes alone has it as one without a form.
+   shown later than another behind it, it is not known whether the tuple is there, until it changes again at a time that is surely later: the
+   log names it for the recorder that goes on, and one of the changes alone has it as one without a form.
 4. A check waits for a read that began behind its answer, for one more where changes came meanwhile, and for the writes that it may have
    seen. A content check stands behind all changes that were known when it began; it is a gap where a change before it in the log need not
    have come. What bears on a question is told by the names of the rules.

@@ -46,27 +46,27 @@ class Takes:
         for name, taken in rules.takes.items():
             self.takes.setdefault(name, set()).update(taken)
 
-    def unmapped(self, given: Relationship, reason: Optional[str]) -> Optional[bytes]:
+    def unmapped(self, given: Relationship, reason: Optional[str], is_base: bool) -> Optional[bytes]:
         """The line for a tuple that has no form in the log, for this reason or because no rules take it; None where it has one."""
         if reason is None and (given.user_type, given.user_relation) in self.takes.get((given.type, given.relation), ()):
             return None
-        return unmapped_line(reason or "tuple that the rules do not take", str(given), given[:3])
+        return unmapped_line(reason or "tuple that the rules do not take", str(given), given[:3], base=is_base)
 
     def base_lines(self, revision: int, given: Iterator[tuple[Relationship, Optional[str]]]) -> Iterator[bytes]:
         """The base state, which may be long; one line at least."""
         some = list(islice(given, TUPLES))
         while True:
-            kept, unmapped = self.sorted_out(some)
+            kept, unmapped = self.sorted_out(some, True)
             yield unmapped + b"".join(base_lines(revision, kept))
             some = list(islice(given, TUPLES))
             if not some:
                 return
 
-    def sorted_out(self, given: Iterable[tuple[Relationship, Optional[str]]]) -> tuple[list[Relationship], bytes]:
+    def sorted_out(self, given: Iterable[tuple[Relationship, Optional[str]]], is_base: bool = False) -> tuple[list[Relationship], bytes]:
         """The tuples that have a form, and the lines for the others."""
         kept, lines = [], []
         for relationship, reason in given:
-            unmapped = self.unmapped(relationship, reason)
+            unmapped = self.unmapped(relationship, reason, is_base)
             if unmapped is None:
                 kept.append(relationship)
             else:

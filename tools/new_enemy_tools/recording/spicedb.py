@@ -20,7 +20,7 @@ from new_enemy_tools.recording.asking import FeedFault
 from new_enemy_tools.recording.bodies import UNHEARD, request_of, response_of
 from new_enemy_tools.recording.core import FULL, WAITING, Asked, Begun, Core
 from new_enemy_tools.recording.lines import line, time_text, write_line
-from new_enemy_tools.recording.log_files import Left, Place
+from new_enemy_tools.recording.log_files import Doubts, Left, Place
 from new_enemy_tools.recording.messages import Ended, Started
 from new_enemy_tools.recording.own_events import UNSURE
 from new_enemy_tools.recording.ruled import Takes, Unread, refuse_unread, ruled
@@ -122,7 +122,7 @@ def _is_past(revision: Revision, read: Revision) -> bool:
 
 
 def read_rules(text: str) -> tuple[Optional[ServiceRules], Refusals]:
-    refusals = Refusals(True)
+    refusals = Refusals()
     return Parser(text, "the schema", refusals).schema(), refusals
 
 
@@ -265,6 +265,7 @@ class SpiceDb:
         self.takes = Takes()
         self.unsure: list[Unsure] = []
         self.placed_at = 0
+        self.doubts: Doubts = ()
         # on PostgreSQL
         self.transactions: Optional[Transactions] = None
         self.pending: list[Waiting] = []

@@ -11,13 +11,13 @@ from typing import BinaryIO, Callable, Generic, NamedTuple, Optional, Protocol, 
 from new_enemy_tools.faults import DeviceFault
 from new_enemy_tools.files import read_bytes
 from new_enemy_tools.parting.cutting import Cut
-from new_enemy_tools.parting.merging import Answer, answer_of
-from new_enemy_tools.parting.reports import read_part_report
 from new_enemy_tools.parting.manifest import evidence_path
-from new_enemy_tools.parting.running import run_all
+from new_enemy_tools.parting.merging import Answer, answer_of
+from new_enemy_tools.parting.part_runs import run_all
+from new_enemy_tools.parting.reports import read_part_report
 from new_enemy_tools.windowing.faults import WindowFault
-from new_enemy_tools.windowing.reading import Joined, Own
 from new_enemy_tools.windowing.state import Row
+from new_enemy_tools.windowing.window_bytes import Joined, Own
 
 PIECE = 1 << 20
 WORKERS = 16

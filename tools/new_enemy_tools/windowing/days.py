@@ -11,7 +11,7 @@ import shutil
 from hashlib import blake2b
 from typing import Any, BinaryIO, Iterator, NamedTuple, Optional, Sequence
 
-from new_enemy_tools.looked import Looked
+from new_enemy_tools.labels import Labels
 from new_enemy_tools.windowing.faults import WindowFault
 from new_enemy_tools.windowing.state import Head, read_sum
 
@@ -162,24 +162,24 @@ class Days:
         return next((number for number in reversed(self.numbers) if self.summary(number).digest == digest), None)
 
 
-def compared(looked: Looked, before: list[tuple[int, dict[str, int]]]) -> Iterator[str]:
+def compared(labels: Labels, before: list[tuple[int, dict[str, int]]]) -> Iterator[str]:
     """How many checks of a day name a version and carry a token, beside the days before it with checks; a release that dropped the header,
     or the token, is seen by it."""
-    known = [(number, of) for number, of in ((number, looked_of(one)) for number, one in before) if of is not None and of.checks]
-    if not known or not looked.checks:
+    known = [(number, of) for number, of in ((number, labels_of(one)) for number, one in before) if of is not None and of.checks]
+    if not known or not labels.checks:
         return
-    for words, count in (("name a content version", Looked.naming), ("carry a token", Looked.carrying)):
-        now, shares = count(looked) / looked.checks, [count(of) / of.checks for _, of in known]
+    for words, count in (("name a content version", Labels.naming), ("carry a token", Labels.carrying)):
+        now, shares = count(labels) / labels.checks, [count(of) / of.checks for _, of in known]
         if not any(shares):
             continue
         less = "; that is less than half of each day before" if now < min(shares) / 2 else ""
-        yield "checks that %s: %d of %d; before: %s%s" % (words, count(looked), looked.checks, ", ".join(
+        yield "checks that %s: %d of %d; before: %s%s" % (words, count(labels), labels.checks, ", ".join(
             "%d of %d (day %d)" % (count(of), of.checks, number) for number, of in known), less)
 
 
-def looked_of(given: dict[str, int]) -> Optional[Looked]:
+def labels_of(given: dict[str, int]) -> Optional[Labels]:
     """What a summary says; None of a day of an earlier version."""
-    return Looked(**given) if given else None
+    return Labels(**given) if given else None
 
 
 def _to_disk(path: str) -> None:

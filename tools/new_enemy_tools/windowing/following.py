@@ -8,9 +8,9 @@ from new_enemy_tools.parting.blocks import Blocks
 from new_enemy_tools.parting.merging import Answer
 from new_enemy_tools.windowing.auditing import How, LinesFeeder, Running
 from new_enemy_tools.windowing.carrying import Window
-from new_enemy_tools.windowing.reading import carried_lines, strata_in, with_strata
 from new_enemy_tools.windowing.scanning import Scanned, scan, scan_checks
 from new_enemy_tools.windowing.state import State
+from new_enemy_tools.windowing.window_bytes import carried_lines, strata_in, with_strata
 
 
 class Seen(NamedTuple):

@@ -7,14 +7,14 @@ from typing import Iterator, NamedTuple, Optional
 from new_enemy_tools.coverage import Coverage, of_row
 from new_enemy_tools.faults import ToolFault
 from new_enemy_tools.findings import Finding, Report, finding_of
-from new_enemy_tools.looked import Looked
+from new_enemy_tools.labels import Labels
 from new_enemy_tools.packing import ENDS, pack, packed_at, unpacked
 from new_enemy_tools.progress import Progress
 from new_enemy_tools.trace import Trace, read_lines
 from new_enemy_tools.trace_lines import ids_in
+from new_enemy_tools.windowing.audited_window import Audited
 from new_enemy_tools.windowing.days import TRACES
-from new_enemy_tools.windowing.reading import Joined, Own
-from new_enemy_tools.windowing.run import Audited
+from new_enemy_tools.windowing.window_bytes import Joined, Own
 
 PIECE = 1 << 20
 TRACE, NUMBERS = "trace", TRACES[-1]
@@ -39,12 +39,12 @@ def _pieces(found: Audited, own: Own) -> Iterator[bytes]:
             yield piece
 
 
-class Told(NamedTuple):
+class DayReport(NamedTuple):
     """What was told with a day, and what of it was looked at."""
 
     report: Report
     coverage: Coverage
-    looked: Looked
+    labels: Labels
 
 
 class KeptDay:
@@ -78,7 +78,7 @@ class KeptDay:
         trace.table = next((mark for mark in map(ids_in, raws[len(carried):len(carried) + 1]) if mark is not None), None)
         return trace
 
-    def told(self) -> Told:
+    def told(self) -> DayReport:
         """What its report says; raises NotKept."""
         try:
             with open(os.path.join(self.folder, "report.txt"), encoding="utf-8") as file:
@@ -90,7 +90,7 @@ class KeptDay:
             verdict = str(summary["verdict"])
             if len(findings) != summary["findings"]:
                 raise ValueError
-            return Told(Report(findings, int(summary["entries"]), verdict), of_row(summary["coverage"]), Looked(**summary["looked"]))
+            return DayReport(Report(findings, int(summary["entries"]), verdict), of_row(summary["coverage"]), Labels(**summary["looked"]))
         except (OSError, ValueError, KeyError, TypeError):
             raise NotKept("%s has not the report and the summary of a day, as this version writes them" % self.folder) from None
 

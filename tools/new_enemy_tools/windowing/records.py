@@ -6,8 +6,8 @@ from new_enemy_tools import limits, strictjson
 from new_enemy_tools.parting.blocks import Blocks
 from new_enemy_tools.parting.placing import line_of
 from new_enemy_tools.trace_lines import RECORD_START
-from new_enemy_tools.windowing.reading import Numbers
 from new_enemy_tools.windowing.state import Row
+from new_enemy_tools.windowing.window_bytes import Numbers
 
 
 
@@ -30,7 +30,7 @@ def _line_named(raw: bytes) -> Optional[int]:
 class Records:
     """Goes through a file of evidence once; keeps the records of entries that are held over."""
 
-    def __init__(self, carried: list[Row], rows: list[Row], numbers: Numbers, held: set[int]):
+    def __init__(self, rows: list[Row], numbers: Numbers, held: set[int]):
         self.numbers = numbers
         self.first = [row for row in rows if row.kind == "e"]
         self.held = held

@@ -6,7 +6,7 @@ show at once what it is; of a repeated key the last counts. What a line says bey
 from typing import NamedTuple, Optional
 
 from new_enemy_tools import strictjson
-from new_enemy_tools.trace import is_u64
+from new_enemy_tools.strictjson import is_u64
 from new_enemy_tools.trace_lines import SNAPSHOTS, commit_at, content_at, is_utf8
 
 # Of a line the number within its block, from 0, the timestamp or snapshot, and the bytes.

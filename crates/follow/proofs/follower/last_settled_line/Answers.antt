@@ -1,6 +1,6 @@
-use Rattle.std.proofs.Common.{◌-◌, ◌<◌, ◌≤◌, arith, rules}
+use Rattle.std.proofs.Common.{◌-◌, ◌≤◌, arith, rules}
 use Rattle.trace_lines.specs.EntryViews.{entry_value}
-use Rattle.follow.proofs.FollowerLemmas.{through_all, through_before}
+use Rattle.follow.proofs.FollowerLemmas.{through_before}
 use Rattle.follow.proofs.follower.last_settled_line.Goals as goal
 
 pub returns-in_default-clause-through : goal.returns-in_default-clause-through

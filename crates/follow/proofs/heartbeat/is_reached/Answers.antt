@@ -1,4 +1,4 @@
-use Rattle.std.proofs.Common.{◌≡◌, ◌∙◌, ℕ, List, sym, ap, map}
+use Rattle.std.proofs.Common.{◌∙◌, List, sym, ap, map}
 use Rattle.version_chains.specs.Commits.{Commit}
 use Rattle.follow.proofs.FollowerLemmas.{reached_by}
 use Rattle.follow.proofs.heartbeat.is_reached.Goals as goal

@@ -16,7 +16,7 @@ returns-in_ok-push-clause-kept c =
     (ap texts_of c.in_ok-push.ensures.items
     ∙ map-append (λ (d : DeclaredLine). string_bytes d.text) c.args.declared.now.items (_ ∷ [])
     ∙ ap (λ (text : List ℕ). texts ++ text ∷ []) c.in_ok-text.ensures.ok)
-    ∙ kept_longer c.args.number c.args.log.now c.take.new.self c.args.text.now texts c.in_ok-take.ensures.answer c.requires.kept
+    ∙ kept_longer c.in-Some.line c.args.log.now c.take.new.self c.args.text.now texts c.in_ok-take.ensures.answer c.requires.kept
     (omega (arith, grown, before, now))
 
 pub returns-else-declared-before-clause-kept : goal.returns-else-declared-before-clause-kept
@@ -24,5 +24,5 @@ returns-else-declared-before-clause-kept c =
     let grown = c.if-declared-before.false in
     let before = c.declared-before.ensures in
     let now = c.declared.ensures in
-    kept_as_long c.args.number c.args.log.now c.take.new.self c.args.text.now (texts_of c.args.declared.now.items)
+    kept_as_long c.in-Some.line c.args.log.now c.take.new.self c.args.text.now (texts_of c.args.declared.now.items)
     c.in_ok-take.ensures.answer c.requires.kept (omega (arith, grown, before, now))

@@ -1,0 +1,29 @@
+use Rattle.std.proofs.Common.{◌≡◌, ◌∙◌, sym, ap, subst}
+use Rattle.std.specs.Prelude.{IfSome, string_bytes}
+use Rattle.trace_lines.specs.Values.{TraceValue}
+use Rattle.audit.specs.Parts.{Told}
+use Rattle.audit.proofs.Answering.{told-map, told_no_memory}
+use Rattle.audit.proofs.KindLemmas.{handed_on}
+use Rattle.follow.specs.Handing.{IsCarryText, run_lines}
+use Rattle.follow.specs.declared.handing.RunEnd.{RunEnd}
+use Rattle.follow.proofs.handing.end_run.Goals as goal
+
+pub returns-in_err-carry : goal.returns-in_err-carry
+returns-in_err-carry g c = handed_on (Told _ _) _ c.from_residual.ensures.1 (told_no_memory _ _)
+
+pub returns-in_err-text : goal.returns-in_err-text
+returns-in_err-text g c = handed_on (Told _ _) _ c.from_residual-in_err-text.ensures.1 (told_no_memory _ _)
+
+pub returns : goal.returns
+returns g c =
+    let f = c.args.follower.now in
+    let one : c.trace.result.now ≡ c.args.log.log = c.trace.ensures ∙ c.pause-paused.ensures ∙ c.into_parts-before.ensures.log in
+    let two : c.trace-2.result.now ≡ c.args.log.log =
+    c.trace-2.ensures ∙ c.pause-paused.ensures ∙ c.into_parts-before.ensures.log in
+    told-map _ _ _ c.tell.result (λ text end says. record {
+      lines = says.0 ∙ c.as_str.ensures.value ∙ c.in_ok-text.ensures
+          ∙ ap (λ (t : TraceValue). run_lines f.base c.args.begun t f.told.items) two;
+      verdict = ap (λ (e : RunEnd). e.verdict) says.1 ∙ c.verdict-verdict.ensures;
+      carry = subst (λ o. IfSome o (λ s. IsCarryText c.args.log.log (string_bytes s))) (sym (ap (λ (e : RunEnd). e.carry) says.1))
+          (subst (λ (t : TraceValue). IfSome c.in_ok-carry.carry (λ s. IsCarryText t (string_bytes s))) one c.in_ok-carry.ensures);
+    }) c.tell.ensures

@@ -1,0 +1,68 @@
+-- What a run comes to that begins behind a log, and hands on.
+use Rattle.std.specs.Prelude.{◌≡◌, ◌-◌, ◌+◌, nat_lt, ℕ, true, List, [], ◌++◌, codes, drop, length, IfSome, Ok, string_bytes, if◌then◌else◌}
+use Rattle.std.specs.List.{flat_map}
+use Rattle.trace_lines.specs.Values.{EntryValue, TraceValue}
+use Rattle.findings.specs.Report.{last_lines}
+use Rattle.findings.specs.declared.finding.Finding.{Finding}
+use Rattle.monitor.specs.Standing.{open_entries}
+use Rattle.carry.specs.Texts.{carry_text}
+use Rattle.carry.specs.Values.{CarryValue}
+use Rattle.runs.specs.Handed.{IsCarryOf}
+use Rattle.runs.specs.Kept.{KeptValue, log_behind}
+use Rattle.audit.specs.Audit.{verdict_of}
+use Rattle.audit.specs.declared.plain.Verdict.{Verdict}
+use Rattle.follow.specs.Heartbeats.{AreTrue}
+use Rattle.follow.specs.Pieces.{Piece, number_text, text_of, told_in}
+use Rattle.follow.specs.Running as running
+use Rattle.follow.specs.Told.{IsToldFrom}
+use Rattle.follow.specs.declared.follower.Follower.{Follower}
+use Rattle.follow.specs.declared.handing.RunEnd.{RunEnd}
+
+-- `line N: not audited, below B`, and a newline, of an entry on a line that asks below the base
+abbrev pub unasked_at : ℕ → ℕ → ℕ → List ℕ
+unasked_at base line snapshot = if nat_lt snapshot base
+    then codes "line " ++ (number_text line (codes ": not audited, below ") ++ number_text base (codes "\n")) else []
+
+abbrev pub unasked_line : ℕ → EntryValue → List ℕ
+unasked_line base e = unasked_at base e.line e.snapshot
+
+-- The last lines of a run: the entries that came and ask below the base, how many entries of the log are open, and the
+-- last lines of a report on so many entries as came.
+abbrev pub run_lines : ℕ → ℕ → TraceValue → List Finding → List ℕ
+run_lines base begun t told = flat_map (unasked_line base) (drop begun t.entries)
+    ++ (codes "open " ++ (number_text (length (open_entries t)) (codes "\n") ++ last_lines told (length t.entries - begun)))
+
+-- the bytes are the text of a carry of a log
+abbrev pub IsCarryText : TraceValue → List ℕ → Type 0
+IsCarryText t bytes = (c : CarryValue) × (bytes ≡ carry_text c) × IsCarryOf t c
+
+-- how a run ends whose follower took all lines of a log
+pub record IsRunEnd (t : TraceValue) (f : Follower) (begun : ℕ) (text : List ℕ) (end : RunEnd) : Type 0 where
+  pub lines : text ≡ run_lines f.base begun t f.told.items
+  pub verdict : end.verdict ≡ verdict_of f.told.items
+  pub carry : IfSome end.carry (λ s. IsCarryText t (string_bytes s))
+
+-- All of the bytes say a log behind the one that stands, and what its lines let tell was told, on entries that ask at
+-- the base or above; the heartbeats are true of it, and the last lines stand behind it. What is handed on is a carry of
+-- that log.
+pub record RunEnds (k : KeptValue) (base : ℕ) (a old new : List ℕ) (end : RunEnd) : Type 0 where
+  pub trace : TraceValue
+  pub said : log_behind k true a ≡ Ok trace
+  pub pieces : List Piece
+  pub told : IsToldFrom (log_behind k) (k.lines + 1) base a (told_in pieces)
+  pub beats : AreTrue trace pieces []
+  pub went : new ≡ old ++ (text_of pieces ++ run_lines base (length k.log.entries) trace (told_in pieces))
+  pub verdict : end.verdict ≡ verdict_of (told_in pieces)
+  pub carry : IfSome end.carry (λ s. IsCarryText trace (string_bytes s))
+
+-- the last lines of a run went out, behind what was told
+pub record EndsRun (k : KeptValue) (base : ℕ) (a : List ℕ) (pieces : List Piece) (ending : List ℕ) (v : Verdict)
+    : Type 0 where
+  pub trace : TraceValue
+  pub said : log_behind k true a ≡ Ok trace
+  pub lines : ending ≡ run_lines base (length k.log.entries) trace (told_in pieces)
+  pub verdict : v ≡ verdict_of (told_in pieces)
+
+-- some first bytes of such a text went out
+abbrev pub RunWentOut : KeptValue → ℕ → List ℕ → List ℕ → List ℕ → Type 0
+RunWentOut k base = running.WentOut (log_behind k) (IsToldFrom (log_behind k) (k.lines + 1) base) (EndsRun k base)

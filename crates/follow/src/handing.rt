@@ -1,0 +1,204 @@
+//! A run that begins behind a log, and hands on.
+
+ghost use Rattle.std.specs.Prelude.{◌≡◌, ◌≤◌, ◌+◌, ◌++◌, ◌∷◌, [], drop, length, IfErr, IfOk, IfSome, OnOk, string_bytes};
+ghost use Rattle.std.specs.List.{flat_map};
+ghost use Rattle.trace_lines.specs.Placed.{AreInPlace};
+ghost use Rattle.trace_lines.specs.Values.{TraceValue, next_line};
+ghost use Rattle.windows.specs.Growth.{GoesOn};
+ghost use Rattle.follow_laws.specs.Begun.{IsOfBytes};
+ghost use Rattle.userset_index.specs.Growth.{IsGrowing};
+ghost use Rattle.monitor.specs.Standing.{IsAtEnd, Stands};
+ghost use Rattle.audit.specs.Devices.{reads, writes};
+ghost use Rattle.audit.specs.Kinds.{IsOneOf};
+ghost use Rattle.audit.specs.Kinds as kind;
+ghost use Rattle.audit.specs.Parts.{Told};
+ghost use Rattle.runs.specs.DeclaredTexts.{texts_of};
+ghost use Rattle.runs.specs.Handed.{AreDeclarationsOf};
+ghost use Rattle.runs.specs.Kept.{log_behind};
+ghost use Rattle.follow.specs.Handing.{IsCarryText, IsRunEnd, RunEnds, RunWentOut, run_lines, unasked_at, unasked_line};
+ghost use Rattle.follow.specs.Running.{Run};
+ghost use Rattle.follow.specs.SoFar.{IsFollowed};
+
+use crate::follower::Follower;
+use crate::following::follow_lines;
+use crate::heartbeat::push_number;
+use audit::{AuditFault, Verdict};
+use carry::write_carry;
+use devices::{Sink, Source};
+use findings::push_last_lines;
+use runs::{DeclaredLine, KeptLog, hand_on};
+use std::alloc::{AllocError, Global};
+use trace_lines::Trace;
+use trace_lines::laws::{entries_rise, stand_in_order, valid_strata, versions_issued_once};
+use userset_index::UsersetIndex;
+
+/// How a run ended.
+#[derive(Drop)]
+pub struct RunEnd {
+    /// Whether anything was told.
+    pub verdict: Verdict,
+    /// The text of a carry, with which the next run begins. There is none where the log has no base.
+    pub carry: Option<String>,
+}
+
+/// What a run hands on: the base of its carry is up to `oldest`, and `before` is the checksum of the carry that it
+/// began with.
+#[derive(Clone, Copy)]
+pub struct Handing<'a> {
+    pub oldest: u64,
+    pub before: Option<&'a str>,
+}
+
+/// Appends a line for an entry that asks below the base.
+fn push_if_unasked(base: u64, line: u64, snapshot: u64, text: &mut String) -> Result<(), AllocError>
+    ensures { OnOk result (string_bytes text.new ≡ string_bytes text.old ++ unasked_at base line snapshot) }
+{
+    if snapshot >= base {
+        return Ok(());
+    }
+    text.push_str("line ")?;
+    push_number(line, ": not audited, below ", text)?;
+    push_number(base, "\n", text)
+}
+
+/// Appends a line for each entry from number `begun` on that asks below the base.
+fn push_unasked(trace: &Trace, base: u64, begun: usize, text: &mut String) -> Result<(), AllocError>
+    requires { begun ≤ length trace.now.entries }
+    ensures { OnOk result (string_bytes text.new
+        ≡ string_bytes text.old ++ flat_map (unasked_line base) (drop begun trace.now.entries)) }
+{
+    // each turn looks at an entry that came in this run
+    for i in begun..trace.len() {
+        let entry = trace.entry(i);
+        push_if_unasked(base, entry.line, entry.snapshot, text)?;
+    }
+    Ok(())
+}
+
+/// The last lines of a run, of whose log so many entries stood there when it began.
+fn run_text(follower: &Follower, trace: &Trace, begun: usize) -> Result<String, AllocError>
+    requires begun { begun ≤ length trace.now.entries }
+    requires stands { Stands trace.now follower.now.monitor }
+    requires all { IsAtEnd trace.now follower.now.monitor }
+    ensures { IfOk result (λ s. string_bytes s
+        ≡ run_lines follower.now.base begun trace.now follower.now.told.items) }
+{
+    let mut text = String::new(follower.alloc);
+    push_unasked(trace, follower.base, begun, &mut text)?;
+    text.push_str("open ")?;
+    push_number(follower.monitor.count_open(trace) as u64, "\n", &mut text)?;
+    push_last_lines(&follower.told, trace.len() - begun, &mut text)?;
+    Ok(text)
+}
+
+/// The text of a carry of a log behind so many lines, where it has a base.
+fn handed_text(
+    alloc: Global,
+    trace: &Trace,
+    declared: &[DeclaredLine],
+    lines: u64,
+    handing: Handing<'_>,
+) -> Result<Option<String>, AllocError>
+    requires { AreDeclarationsOf trace.now (texts_of declared.now) }
+    ensures { IfOk result (λ o. IfSome o (λ s. IsCarryText trace.now (string_bytes s))) }
+{
+    match hand_on(
+        alloc,
+        trace,
+        declared,
+        lines,
+        handing.oldest,
+        handing.before,
+    )? {
+        Some(carry) => Ok(Some(write_carry(alloc, &carry)?)),
+        None => Ok(None),
+    }
+}
+
+/// Writes the last lines of a run, and hands its log on, of which so many lines were read.
+fn end_run<W: Sink>(
+    log: KeptLog,
+    usersets: UsersetIndex,
+    read: u64,
+    begun: usize,
+    handing: Handing<'_>,
+    follower: &Follower,
+    out: &mut W,
+) -> Result<RunEnd, AuditFault>
+    requires begun { begun ≤ length log.log.entries }
+    requires followed { IsFollowed log.log follower.now }
+    requires all { IsAtEnd log.log follower.now.monitor }
+    requires indexed { IsGrowing log.log.declarations log.log.commits usersets }
+    ensures { Told (IsRunEnd log.log follower.now begun)
+        (writes W.taken W.flushes W.failures W.idle W.contents out.old out.new) result }
+{
+    let alloc = follower.alloc;
+    let (before, log, declared) = log.into_parts();
+    let paused = log.pause(usersets);
+    let lines = before.saturating_add(read);
+    let carry = handed_text(alloc, paused.trace(), &declared, lines, handing)?;
+    let text = run_text(follower, paused.trace(), begun)?;
+    let verdict = follower.verdict();
+    audit::tell(text.as_str(), RunEnd { verdict, carry }, out)
+}
+
+/// A follower that stands behind a log, and tells from its next line on of entries that ask at the base or above.
+fn stand_behind(
+    alloc: Global,
+    log: KeptLog,
+    base: u64,
+) -> Result<(KeptLog, Follower, usize), AllocError>
+    requires { next_line log.log ≤ log.lines + 1 }
+    ensures log { IfOk result (λ r. r.0 ≡ log) }
+    ensures begun { IfOk result (λ r. r.2 ≡ length log.log.entries) }
+    ensures told { IfOk result (λ r. r.1.told.items ≡ []) }
+    ensures from { IfOk result (λ r. (r.1.first ≡ log.lines + 1) × (r.1.base ≡ base)) }
+    ensures followed { IfOk result (λ r. (u : TraceValue) → GoesOn log.lines log.log u → AreInPlace u → IsOfBytes u
+        → IsFollowed u r.1) }
+{
+    let usersets = log.usersets();
+    let (lines, log, declared) = log.into_parts();
+    // no memory holds a log whose lines have no number
+    let Some(first) = lines.checked_add(1) else {
+        return Err(AllocError);
+    };
+    let paused = log.pause(usersets);
+    let trace = paused.trace();
+    stand_in_order(trace);
+    entries_rise(trace);
+    versions_issued_once(trace);
+    valid_strata(trace);
+    let begun = trace.len();
+    let follower = Follower::behind(alloc, trace, first, base)?;
+    let (log, _) = paused.resume();
+    let log = KeptLog::from_parts(alloc, lines, log, declared);
+    Ok((log, follower, begun))
+}
+
+/// Follows the lines of a run behind a log, as [`follow`](crate::follow) does those of a trace: what was told of the
+/// log's own lines is not told again, and of entries that ask below the base, where the log does not know the store,
+/// nothing is told. At the end of the lines what no commit settles is not told: it goes on to the next run. Then come,
+/// for each entry that came and asks below the base, `line N: not audited, below B`; `open O`, for the entries that are
+/// not settled; and the last lines of the report, which count the entries that came and the findings of this run.
+///
+/// It gives the verdict of what was told, and what the next run begins with. A refusal of a line is told by the number
+/// of the line in the run; findings are told by those of the whole log.
+pub fn follow_run<A: Source, W: Sink>(
+    alloc: Global,
+    log: KeptLog,
+    base: u64,
+    handing: Handing<'_>,
+    trace: &mut A,
+    out: &mut W,
+    heartbeats: bool,
+) -> Result<RunEnd, AuditFault>
+    requires { next_line log.log ≤ log.lines + 1 }
+    ensures run { Run (log_behind log) (RunEnds log base) (RunWentOut log base)
+        (reads A.given A.ends A.failures A.remaining trace.old trace.new)
+        (writes W.taken W.flushes W.failures W.idle W.contents out.old out.new) result }
+    ensures kinds { IfErr result (IsOneOf (kind.trace ∷ kind.write ∷ kind.memory ∷ [])) }
+{
+    let (log, mut follower, begun) = stand_behind(alloc, log, base)?;
+    let (log, usersets, read) = follow_lines(log, &mut follower, trace, out, heartbeats)?;
+    end_run(log, usersets, read, begun, handing, &follower, out)
+}
