@@ -8,7 +8,6 @@ pub mod IssuerWalk
 pub mod Keeping
 pub mod LineCauses
 pub mod LinesOfTrace
-pub mod LinesSoFar
 pub mod LineSplits
 pub mod MoreMembers
 pub mod OfBytes

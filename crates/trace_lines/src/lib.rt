@@ -6,8 +6,8 @@
 //! It has what reading alone needs, the sample, the index of edges and the versions, and lets go of that when it
 //! makes its trace. [`TraceLine`] is what a line says by itself, and [`TraceBuilder::put_line`] puts that into a
 //! builder: so [`read_trace_by`] has several threads tell what the lines of a block say, while one puts that in. A
-//! check or a commit that is written plainly is taken by its text. Who follows a log takes a line at a time by
-//! [`take_next`], and between two lines [`TraceBuilder::pause`] lends the trace so far, with an index that grows.
+//! check or a commit that is written plainly is taken by its text. Between two lines [`TraceBuilder::pause`] lends the
+//! trace so far, with an index that grows.
 //!
 //! Callers may rely on this: what is read is `trace_of` the bytes, value or first fault, with its line, also of a
 //! reader that fails. Input that never ends is refused at the limits. Commits and entries stand on lines that rise.
@@ -33,7 +33,6 @@ mod entry;
 mod front;
 pub mod laws;
 mod line;
-mod next;
 mod owned;
 mod paused;
 mod read;
@@ -49,7 +48,6 @@ pub use cause::{Cause, TraceFault};
 pub use entry::{Entry, EntryKind};
 pub use front::{TraceFront, read_trace_front};
 pub use line::TraceLine;
-pub use next::take_next;
 pub use paused::PausedTrace;
 pub use read::read_trace;
 pub use read_by::read_trace_by;
