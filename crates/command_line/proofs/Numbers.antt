@@ -3,7 +3,7 @@ use Rattle.std.proofs.Common.{refl, sym, ap, ◌∙◌, ◌≡◌, ◌<◌, ◌^
 use Rattle.std.specs.Str.Parse.{IsNumeral, ParsesUnsigned, digits_value, without_leading_plus}
 use Rattle.std.specs.Prelude.{IfSome}
 use Rattle.clap.specs.Words.{ReadsOne, Row, Text, one_of}
-use Rattle.command_line.specs.Asked.{IsNumberIn}
+use Rattle.command_line.specs.Asked.{GivesNumber, IsNumberIn, IsOptionIn}
 
 pub read_as_unsigned : (E : Type 0) (G : List ℕ → Result ℕ E → Type 0) (k n : ℕ) (t : List ℕ) (r : Option ℕ) → ReadsOne G t r
     → ((x : Result ℕ E) → G t x → ParsesUnsigned k 10 t x) → IsNumeral 10 (without_leading_plus t) → digits_value 10 (without_leading_plus t) ≡ n → n < 2 ^ k → r ≡ Some n
@@ -32,3 +32,9 @@ pub flag_given : (found : Option Text) (b : Bool) → (found ≡ Some (codes "tr
     → ¬ (found ≡ Some (if b then codes "false" else codes "true"))
 flag_given found true set unset e = absurd (let bad : true ≡ false = unset e in cc)
 flag_given found false set unset e = absurd (let bad : false ≡ true = set e in cc)
+
+-- where no number is read, none is given
+pub option_in : (rows : List Row) (id : Text) (o : Option ℕ) → IfSome o (IsNumberIn rows id)
+    → ((n : ℕ) → GivesNumber rows id n → o ≡ Some n) → IsOptionIn rows id o
+option_in rows id None given whole = λ n gives. absurd (let bad : None ≡ Some n = whole n gives in cc)
+option_in rows id (Some n) given whole = given

@@ -182,8 +182,15 @@ pub follow_is : (t : Text) → is_plain_word t ≡ true → subcommand_of progra
 unfolding clap_on_literals
 follow_is t p = ap (λ (w : Walk). Some (codes "follow", finished (sub 3).rules w.held)) (step (sub 3) 1 t nothing_held p)
 
-pub follow_found : (t : Text) → IsFollowFound (follow_rows t) t false
-follow_found t = record { trace = refl; heartbeat_given = refl }
+pub follow_found : (t : Text) → IsFollowFound (follow_rows t) t None None None false
+follow_found t = record {
+  trace = refl;
+  from_given = refl;
+  carry_given = refl;
+  oldest_given = refl;
+  heartbeat_given = refl;
+  fits = λ given. absurd cc;
+}
 
 abbrev pub input_rows : List Row
 input_rows = finished (sub 3).rules nothing_held
@@ -196,5 +203,12 @@ pub input_is : subcommand_of program (codes "follow" ∷ []) ≡ Some (codes "fo
 unfolding clap_on_literals
 input_is = refl
 
-pub input_found : IsFollowFound input_rows (codes "/dev/stdin") false
-input_found = record { trace = refl; heartbeat_given = refl }
+pub input_found : IsFollowFound input_rows (codes "/dev/stdin") None None None false
+input_found = record {
+  trace = refl;
+  from_given = refl;
+  carry_given = refl;
+  oldest_given = refl;
+  heartbeat_given = refl;
+  fits = λ given. absurd cc;
+}

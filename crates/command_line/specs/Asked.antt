@@ -22,7 +22,7 @@ pub data Asked : Type 0 where
   audits : Text → Option Text → ℕ → ℕ → Bool → Asked
   makes : Text → Bool → Asked
   tells : Text → Text → Asked
-  follows : Text → Bool → Asked
+  follows : Text → Option Text → Option Text → Option ℕ → Bool → Asked
 
 abbrev pub asked_by : Request → Asked
 asked_by request.Joined = joined
@@ -30,7 +30,8 @@ asked_by (request.Audit trace evidence workers slice early) =
     audits trace.now (option_map (λ e. e.now) evidence) workers slice early
 asked_by (request.Make trace list) = makes trace.now list
 asked_by (request.History trace tuple) = tells trace.now tuple.now
-asked_by (request.Follow trace heartbeat) = follows trace.now heartbeat
+asked_by (request.Follow trace from carry oldest heartbeat) =
+    follows trace.now (option_map (λ s. s.now) from) (option_map (λ s. s.now) carry) oldest heartbeat
 
 abbrev pub asked_in : Answer → Option Asked
 asked_in (answer.Asks r) = Some (asked_by r)
@@ -42,7 +43,7 @@ command_of joined = None
 command_of (audits _ _ _ _ _) = Some (codes "audit")
 command_of (makes _ _) = Some (codes "make")
 command_of (tells _ _) = Some (codes "history")
-command_of (follows _ _) = Some (codes "follow")
+command_of (follows _ _ _ _ _) = Some (codes "follow")
 
 -- the number that the text of an argument writes
 pub record IsNumberIn (rows : List Row) (id : Text) (n : ℕ) : Type 0 where
@@ -54,6 +55,11 @@ pub record IsNumberIn (rows : List Row) (id : Text) (n : ℕ) : Type 0 where
 -- an argument is given as a number that fits 64 bits
 abbrev pub GivesNumber : List Row → Text → ℕ → Type 0
 GivesNumber rows id n = IsNumberIn rows id n × (n < 2 ^ 64)
+
+-- so it is with one that may be left out
+abbrev pub GivesOption : List Row → Text → Option ℕ → Type 0
+GivesOption rows id None = one_of id rows ≡ None
+GivesOption rows id (Some n) = GivesNumber rows id n
 
 -- a flag is given, or is not
 abbrev pub GivesFlag : List Row → Text → Bool → Type 0
@@ -78,13 +84,24 @@ pub record IsHistoryFound (rows : List Row) (t u : Text) : Type 0 where
   pub trace : first_of (codes "TRACE") rows ≡ Some t
   pub tuple : first_of (codes "TUPLE") rows ≡ Some u
 
-pub record IsFollowFound (rows : List Row) (t : Text) (heartbeat : Bool) : Type 0 where
+-- a whole request to follow: a timestamp is given only where a carry is asked for
+pub record IsFollowFound (rows : List Row) (t : Text) (from carry : Option Text) (oldest : Option ℕ) (heartbeat : Bool)
+    : Type 0 where
   pub trace : first_of (codes "TRACE") rows ≡ Some t
+  pub from_given : first_of (codes "from") rows ≡ from
+  pub carry_given : first_of (codes "carry") rows ≡ carry
+  pub oldest_given : GivesOption rows (codes "oldest-snapshot") oldest
   pub heartbeat_given : GivesFlag rows (codes "heartbeat") heartbeat
+  pub fits : is_some oldest ≡ true → is_some carry ≡ true
 
 -- the text of a flag does not say the other thing
 abbrev pub IsFlagIn : List Row → Text → Bool → Type 0
 IsFlagIn rows id b = ¬ (one_of id rows ≡ Some (if b then codes "false" else codes "true"))
+
+-- and where no number is read, none is given
+abbrev pub IsOptionIn : List Row → Text → Option ℕ → Type 0
+IsOptionIn rows id None = (n : ℕ) → ¬ GivesNumber rows id n
+IsOptionIn rows id (Some n) = IsNumberIn rows id n
 
 -- what is asked for is what clap found
 abbrev pub IsFoundIn : List Row → Asked → Type 0
@@ -95,8 +112,10 @@ IsFoundIn rows (audits t e workers slice early) =
     × IsFlagIn rows (codes "early") early
 IsFoundIn rows (makes t list) = (first_of (codes "TRACE") rows ≡ Some t) × IsFlagIn rows (codes "list") list
 IsFoundIn rows (tells t u) = (first_of (codes "TRACE") rows ≡ Some t) × (first_of (codes "TUPLE") rows ≡ Some u)
-IsFoundIn rows (follows t heartbeat) =
-    (first_of (codes "TRACE") rows ≡ Some t) × IsFlagIn rows (codes "heartbeat") heartbeat
+IsFoundIn rows (follows t from carry oldest heartbeat) =
+    (first_of (codes "TRACE") rows ≡ Some t) × (first_of (codes "from") rows ≡ from)
+    × (first_of (codes "carry") rows ≡ carry) × IsOptionIn rows (codes "oldest-snapshot") oldest
+    × IsFlagIn rows (codes "heartbeat") heartbeat
 
 -- and that stands behind the command's name
 abbrev pub IsFoundBehind : Option (Text × List Row) → Asked → Type 0
@@ -121,8 +140,8 @@ IsWholeIn found (audits t e workers slice early) =
     (rows : List Row) × (found ≡ Some (codes "audit", rows)) × IsAuditFound rows t e workers slice early
 IsWholeIn found (makes t list) = (rows : List Row) × (found ≡ Some (codes "make", rows)) × IsMakeFound rows t list
 IsWholeIn found (tells t u) = (rows : List Row) × (found ≡ Some (codes "history", rows)) × IsHistoryFound rows t u
-IsWholeIn found (follows t heartbeat) =
-    (rows : List Row) × (found ≡ Some (codes "follow", rows)) × IsFollowFound rows t heartbeat
+IsWholeIn found (follows t from carry oldest heartbeat) =
+    (rows : List Row) × (found ≡ Some (codes "follow", rows)) × IsFollowFound rows t from carry oldest heartbeat
 
 -- the words write a whole request
 abbrev pub Write : List Text → Asked → Type 0

@@ -30,6 +30,16 @@ fn flag<'a>(alloc: Global, name: &'a str, help: &'a str) -> Arg<'a>
         .help(help)
 }
 
+/// A file that an option names.
+fn path<'a>(alloc: Global, name: &'a str, help: &'a str) -> Arg<'a>
+    ensures { spec.IsArg (spec.path name.entry.now) result }
+{
+    Arg::new(alloc, name)
+        .long(name)
+        .value_name("FILE")
+        .help(help)
+}
+
 fn number<'a>(alloc: Global, name: &'a str, usual: &'a str, help: &'a str) -> Arg<'a>
     ensures { spec.IsArg (spec.number name.entry.now usual.entry.now) result }
 {
@@ -176,20 +186,41 @@ fn followed<'a>(alloc: Global) -> Arg<'a>
     )
 }
 
-fn follow<'a>(alloc: Global) -> Result<Command<'a>, AllocError>
-    ensures { IfOk result (spec.IsCommand spec.follow) }
+fn oldest<'a>(alloc: Global) -> Arg<'a>
+    ensures { spec.IsArg (spec.optional_number (codes "oldest-snapshot")) result }
+{
+    Arg::new(alloc, "oldest-snapshot")
+        .long("oldest-snapshot")
+        .value_name("T")
+        .value_parser(value_parser!(u64))
+        .help("The carry keeps the store at the last commit up to this timestamp, and what came behind it")
+}
+
+fn follow<'a>(alloc: Global, oldest: Arg<'a>) -> Result<Command<'a>, AllocError>
+    ensures { spec.IsArg (spec.optional_number (codes "oldest-snapshot")) oldest.entry
+        → IfOk result (spec.IsCommand spec.follow) }
 {
     let heartbeat = flag(
         alloc,
         "heartbeat",
         "Tell up to which line all entries are settled, after each read that settles any",
     );
-    let args = vec![in alloc; followed(alloc), heartbeat]?;
+    let from = path(
+        alloc,
+        "from",
+        "Go on behind the log of this carry, which an earlier run wrote",
+    );
+    let carry = path(
+        alloc,
+        "carry",
+        "Write a carry to this file, which must not exist: the next run begins with it",
+    );
+    let args = vec![in alloc; followed(alloc), heartbeat, from, carry, oldest]?;
     command(
         alloc,
         "follow",
         "Audits a trace as it comes, by evidence that it makes, and tells each finding as soon as nothing can change it",
-        "Example: tail -n +1 -F trace.jsonl | new_enemy follow --heartbeat\n\nThe lines are those of the report of audit --make, in the order in which they can be told. At the end of the\ninput come those that are left, the two counts and the verdict.\nExit status: 0 clean, 1 dirty, 2 the trace is refused, 3 the words are, 4 out of memory,\n5 a file can't be opened or a device failed. With 2 to 5 there is no verdict; what was told before stands.",
+        "Examples: tail -n +1 -F trace.jsonl | new_enemy follow --heartbeat\n          new_enemy follow monday.jsonl --carry monday.carry\n          new_enemy follow tuesday.jsonl --from monday.carry --carry tuesday.carry --oldest-snapshot 90000\n\nThe lines are those of the report of audit --make, in the order in which they can be told. At the end of the\ninput come those that are left, the two counts and the verdict. A run with --from or --carry tells only what is\nsettled: an entry that waits for a commit goes on in the carry. One that asks below the carry's store is not\naudited, and is told so.\nExit status: 0 clean, 1 dirty, 2 the trace or the carry is refused, 3 the words are, 4 out of memory,\n5 a file can't be opened or a device failed, 6 nothing was found, and not all was audited. With 2 to 5 there is\nno verdict; what was told before stands.",
         args,
     )
 }
@@ -212,12 +243,16 @@ fn bare<'a>(alloc: Global) -> Result<Command<'a>, AllocError>
     )
 }
 
-fn with_commands<'a>(alloc: Global, audit: Command<'a>) -> Result<Command<'a>, AllocError>
-    ensures { spec.IsCommand spec.audit audit.entry → IfOk result (spec.IsCommand spec.program) }
+fn with_commands<'a>(
+    alloc: Global,
+    audit: Command<'a>,
+    follow: Command<'a>,
+) -> Result<Command<'a>, AllocError>
+    ensures { spec.IsCommand spec.audit audit.entry → spec.IsCommand spec.follow follow.entry
+        → IfOk result (spec.IsCommand spec.program) }
 {
     let make = make(alloc)?;
     let history = history(alloc)?;
-    let follow = follow(alloc)?;
     let commands = vec![in alloc; audit, make, history, follow]?;
     bare(alloc)?.subcommands(commands)
 }
@@ -227,7 +262,8 @@ pub(crate) fn program<'a>(alloc: Global) -> Result<Command<'a>, AllocError>
     ensures { IfOk result (spec.IsCommand spec.program) }
 {
     let audit = audit(alloc, evidence(alloc), making(alloc))?;
-    with_commands(alloc, audit)
+    let follow = follow(alloc, oldest(alloc))?;
+    with_commands(alloc, audit, follow)
 }
 
 fn needed_evidence<'a>(alloc: Global) -> Result<Arg<'a>, AllocError> {
@@ -243,5 +279,6 @@ fn strict_making<'a>(alloc: Global) -> Result<Arg<'a>, AllocError> {
 /// The same with the rules between arguments, for the texts of what is refused.
 pub(crate) fn strict<'a>(alloc: Global) -> Result<Command<'a>, AllocError> {
     let audit = audit(alloc, needed_evidence(alloc)?, strict_making(alloc)?)?;
-    with_commands(alloc, audit)
+    let follow = follow(alloc, oldest(alloc).requires_arg("carry")?)?;
+    with_commands(alloc, audit, follow)
 }

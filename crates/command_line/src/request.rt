@@ -3,7 +3,7 @@
 ghost use Rattle.std.specs.Prelude.{◌≡◌, ◌⊎◌, ℕ, [], ◌∷◌, Ok, Some, None, true, false, not, is_some, Bool, List, Option, IfOk, IfErr, IfSome, codes, map, slice_get, string_bytes, option_map};
 ghost use Rattle.clap.specs.Words.{Row, Text, rows_of, found_of, first_of, one_of, subcommand_of, subcommand_rows_of, takes, kind_of, FailsBy, fault_of};
 ghost use Rattle.command_line.specs.Commands as spec;
-ghost use Rattle.command_line.specs.Asked.{AreTaken, AskForHelp, Asked, GivesFlag, GivesNumber, IsAskedBy, IsAuditFound, IsFlagIn, IsFollowFound, IsFoundBehind, IsFoundIn, IsHistoryFound, IsMakeFound, IsNumberIn, IsWholeIn, Write, asked_by, asked_in, command_of, is_plain_word, is_to_show, audits, follows, makes, tells};
+ghost use Rattle.command_line.specs.Asked.{AreTaken, AskForHelp, Asked, GivesFlag, GivesNumber, GivesOption, IsAskedBy, IsAuditFound, IsFlagIn, IsFollowFound, IsFoundBehind, IsFoundIn, IsHistoryFound, IsMakeFound, IsNumberIn, IsOptionIn, IsWholeIn, Write, asked_by, asked_in, command_of, is_plain_word, is_to_show, audits, follows, makes, tells};
 ghost use Rattle.command_line.specs.declared.request.Answer.TheVariants.{Asks};
 ghost use Rattle.command_line.specs.declared.request.Request.TheVariants.{Joined};
 
@@ -38,8 +38,13 @@ pub enum Request<'a> {
         tuple: &'a str,
     },
     /// The audit of the trace of a file as it comes, by evidence that is made; with heartbeats where they are asked for.
+    /// It goes on behind the log of the carry in the file `from`, and hands on a carry in the file `carry`, whose base
+    /// moves up to the timestamp `oldest`.
     Follow {
         trace: &'a str,
+        from: Option<&'a str>,
+        carry: Option<&'a str>,
+        oldest: Option<u64>,
         heartbeat: bool,
     },
 }
@@ -76,6 +81,8 @@ fn text<'a>(matches: &ArgMatches<'a>, id: &str) -> Option<&'a str>
 fn number(matches: &ArgMatches, id: &str) -> Option<u64>
     ensures whole { (n : ℕ) → GivesNumber (rows_of (found_of matches.now)) id.now n → result ≡ Some n }
     ensures given { IfSome result (IsNumberIn (rows_of (found_of matches.now)) id.now) }
+    ensures option { (o : Option ℕ) → GivesOption (rows_of (found_of matches.now)) id.now o → result ≡ o }
+    ensures option_given { IsOptionIn (rows_of (found_of matches.now)) id.now result }
 {
     matches.get_one::<u64>(id)
 }
@@ -171,14 +178,29 @@ fn history_of<'a>(matches: &ArgMatches<'a>) -> Option<Request<'a>>
 }
 
 fn follow_of<'a>(matches: &ArgMatches<'a>) -> Option<Request<'a>>
-    ensures asked { (t : Text) (heartbeat : Bool) → IsFollowFound (rows_of (found_of matches.now)) t heartbeat
-        → option_map asked_by result ≡ Some (follows t heartbeat) }
+    ensures asked { (t : Text) (from carry : Option Text) (oldest : Option ℕ) (heartbeat : Bool)
+        → IsFollowFound (rows_of (found_of matches.now)) t from carry oldest heartbeat
+        → option_map asked_by result ≡ Some (follows t from carry oldest heartbeat) }
     ensures named { IfSome result (λ r. command_of (asked_by r) ≡ Some (codes "follow")) }
     ensures given { IfSome result (λ r. IsFoundIn (rows_of (found_of matches.now)) (asked_by r)) }
 {
+    let from = text(matches, "from");
+    let carry = text(matches, "carry");
+    let oldest = number(matches, "oldest-snapshot");
     let heartbeat = has(matches, "heartbeat");
+    if oldest.is_some() && carry.is_none() {
+        return None;
+    }
     match text(matches, "TRACE") {
-        Some(trace) => Some(Request::Follow { trace, heartbeat }),
+        Some(trace) => {
+            Some(Request::Follow {
+                trace,
+                from,
+                carry,
+                oldest,
+                heartbeat,
+            })
+        }
         None => None,
     }
 }
@@ -193,9 +215,10 @@ fn request_of<'a>(matches: &ArgMatches<'a>) -> Option<Request<'a>>
     ensures history { (rows : List Row) (t u : Text)
         → subcommand_rows_of matches.now ≡ Some (codes "history", rows) → IsHistoryFound rows t u
         → option_map asked_by result ≡ Some (tells t u) }
-    ensures follow { (rows : List Row) (t : Text) (heartbeat : Bool)
-        → subcommand_rows_of matches.now ≡ Some (codes "follow", rows) → IsFollowFound rows t heartbeat
-        → option_map asked_by result ≡ Some (follows t heartbeat) }
+    ensures follow { (rows : List Row) (t : Text) (from carry : Option Text) (oldest : Option ℕ) (heartbeat : Bool)
+        → subcommand_rows_of matches.now ≡ Some (codes "follow", rows)
+        → IsFollowFound rows t from carry oldest heartbeat
+        → option_map asked_by result ≡ Some (follows t from carry oldest heartbeat) }
     ensures named { IfSome result
         (λ r. option_map (λ p. p.0) (subcommand_rows_of matches.now) ≡ command_of (asked_by r)) }
     ensures some { IfSome result (λ r. is_some (command_of (asked_by r)) ≡ true) }
@@ -250,7 +273,8 @@ fn told_as<'a>(error: &Error, text: String) -> Answer<'a>
 ///
 /// Without words joined input is asked for. Words that name no command, lack one of its words, have one too many,
 /// repeat an option or give it no number below 2^64 are refused, and so is an audit with both evidence and `--make`, or
-/// with neither, or of `--make` with `--early`. Help and the version are shown where they are asked for.
+/// with neither, or of `--make` with `--early`, and `--oldest-snapshot` without `--carry`. Help and the version are shown
+/// where they are asked for.
 pub fn read_words<'a>(alloc: Global, words: &'a [String]) -> Result<Answer<'a>, AllocError>
     ensures joined { IfOk result (λ a. a ≡ Asks Joined → words.now ≡ []) }
     ensures none { words.now ≡ [] → result ≡ Ok (Asks Joined) }
@@ -276,9 +300,9 @@ pub fn read_words<'a>(alloc: Global, words: &'a [String]) -> Result<Answer<'a>, 
         → is_plain_word t ≡ true → is_plain_word u ≡ true
         → IfOk result (λ a. asked_in a ≡ Some (tells t u)) }
     ensures follow { (t : Text) → map string_bytes words.now ≡ codes "follow" ∷ t ∷ [] → is_plain_word t ≡ true
-        → IfOk result (λ a. asked_in a ≡ Some (follows t false)) }
+        → IfOk result (λ a. asked_in a ≡ Some (follows t None None None false)) }
     ensures follow_input { map string_bytes words.now ≡ codes "follow" ∷ []
-        → IfOk result (λ a. asked_in a ≡ Some (follows (codes "/dev/stdin") false)) }
+        → IfOk result (λ a. asked_in a ≡ Some (follows (codes "/dev/stdin") None None None false)) }
 {
     if words.is_empty() {
         return Ok(Answer::Asks(Request::Joined));

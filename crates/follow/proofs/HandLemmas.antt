@@ -11,7 +11,7 @@ use Rattle.audit.specs.Parts.{Told}
 use Rattle.audit.specs.Audit.{Says}
 use Rattle.audit.specs.declared.plain.AuditFault.{AuditFault}
 use Rattle.audit.specs.declared.plain.AuditFault.TheVariants as faults
-use Rattle.follow.specs.Handing.{IsRunEnd, RunEnds, RunWentOut, run_lines}
+use Rattle.follow.specs.Handing.{IsRunEnd, RunEnds, RunWentOut, run_lines, unaudited}
 use Rattle.follow.specs.Heartbeats.{AreTrue}
 use Rattle.follow.specs.Pieces.{text_of, told_in}
 use Rattle.follow.specs.Running.{GoesOnAs, Run}
@@ -144,6 +144,7 @@ module _ (k : KeptValue) (base : ℕ) (trace : Reading) (one two three : Writer)
                   ∙ append_assoc one.taken (text_of lines.pieces) text
                   ∙ ap (λ (t : List ℕ). one.taken ++ (text_of lines.pieces ++ t)) (last text end is);
               verdict = is.verdict ∙ ap verdict_of lines.same;
+              unaudited = is.unaudited ∙ ap (λ (b : ℕ). unaudited b begun l.log) low;
               carry = is.carry;
             },
           ),

@@ -1,10 +1,14 @@
 pub mod AskLemmas
 pub mod BeatLemmas
+pub mod CarriedLemmas
+pub mod CountLemmas
 pub mod FollowerLemmas
 pub mod GrownLemmas
 pub mod HandLemmas
 pub mod IndexLemmas
 pub mod MadeLemmas
+pub mod MoreBytes
 pub mod ReadLemmas
+pub mod ReportLemmas
 pub mod RunLemmas
 pub mod WholeLemmas

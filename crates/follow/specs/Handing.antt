@@ -1,5 +1,5 @@
 -- What a run comes to that begins behind a log, and hands on.
-use Rattle.std.specs.Prelude.{◌≡◌, ◌-◌, ◌+◌, nat_lt, ℕ, true, List, [], ◌++◌, codes, drop, length, IfSome, Ok, string_bytes, if◌then◌else◌}
+use Rattle.std.specs.Prelude.{◌≡◌, ◌==◌, ◌||◌, ◌-◌, ◌+◌, nat_lt, ℕ, true, List, [], ◌++◌, codes, drop, filter, length, IfSome, Ok, string_bytes, if◌then◌else◌}
 use Rattle.std.specs.List.{flat_map}
 use Rattle.trace_lines.specs.Values.{EntryValue, TraceValue}
 use Rattle.findings.specs.Report.{last_lines}
@@ -26,11 +26,25 @@ unasked_at base line snapshot = if nat_lt snapshot base
 abbrev pub unasked_line : ℕ → EntryValue → List ℕ
 unasked_line base e = unasked_at base e.line e.snapshot
 
--- The last lines of a run: the entries that came and ask below the base, how many entries of the log are open, and the
--- last lines of a report on so many entries as came.
+-- how many of the entries that came ask below the base
+abbrev pub unaudited : ℕ → ℕ → TraceValue → ℕ
+unaudited base begun t = length (filter (λ e. nat_lt e.snapshot base) (drop begun t.entries))
+
+abbrev pub incomplete_lines : ℕ → List ℕ
+incomplete_lines entries = codes "entries " ++ number_text entries (codes "\nfindings 0\nverdict incomplete\n")
+
+-- The last lines of a report on so many entries; where nothing was found, and not all was audited, it is not clean.
+abbrev pub run_report : ℕ → List Finding → ℕ → List ℕ
+run_report unaudited told entries =
+    if unaudited == 0 || nat_lt 0 (length told) then last_lines told entries else incomplete_lines entries
+
+-- The last lines of a run: each entry that came and asks below the base, how many these are, how many entries of the log
+-- are open, and the last lines of a report on so many entries as came.
 abbrev pub run_lines : ℕ → ℕ → TraceValue → List Finding → List ℕ
 run_lines base begun t told = flat_map (unasked_line base) (drop begun t.entries)
-    ++ (codes "open " ++ (number_text (length (open_entries t)) (codes "\n") ++ last_lines told (length t.entries - begun)))
+    ++ (codes "not audited " ++ (number_text (unaudited base begun t) (codes "\n")
+    ++ (codes "open " ++ (number_text (length (open_entries t)) (codes "\n")
+    ++ run_report (unaudited base begun t) told (length t.entries - begun)))))
 
 -- the bytes are the text of a carry of a log
 abbrev pub IsCarryText : TraceValue → List ℕ → Type 0
@@ -40,6 +54,7 @@ IsCarryText t bytes = (c : CarryValue) × (bytes ≡ carry_text c) × IsCarryOf 
 pub record IsRunEnd (t : TraceValue) (f : Follower) (begun : ℕ) (text : List ℕ) (end : RunEnd) : Type 0 where
   pub lines : text ≡ run_lines f.base begun t f.told.items
   pub verdict : end.verdict ≡ verdict_of f.told.items
+  pub unaudited : end.unaudited ≡ unaudited f.base begun t
   pub carry : IfSome end.carry (λ s. IsCarryText t (string_bytes s))
 
 -- All of the bytes say a log behind the one that stands, and what its lines let tell was told, on entries that ask at
@@ -53,6 +68,7 @@ pub record RunEnds (k : KeptValue) (base : ℕ) (a old new : List ℕ) (end : Ru
   pub beats : AreTrue trace pieces []
   pub went : new ≡ old ++ (text_of pieces ++ run_lines base (length k.log.entries) trace (told_in pieces))
   pub verdict : end.verdict ≡ verdict_of (told_in pieces)
+  pub unaudited : end.unaudited ≡ unaudited base (length k.log.entries) trace
   pub carry : IfSome end.carry (λ s. IsCarryText trace (string_bytes s))
 
 -- the last lines of a run went out, behind what was told

@@ -1,3 +1,4 @@
+pub mod Carried
 pub mod Following
 pub mod Handing
 pub mod Heartbeats

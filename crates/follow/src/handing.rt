@@ -15,7 +15,9 @@ ghost use Rattle.audit.specs.Parts.{Told};
 ghost use Rattle.runs.specs.DeclaredTexts.{texts_of};
 ghost use Rattle.runs.specs.Handed.{AreDeclarationsOf};
 ghost use Rattle.runs.specs.Kept.{log_behind};
-ghost use Rattle.follow.specs.Handing.{IsCarryText, IsRunEnd, RunEnds, RunWentOut, run_lines, unasked_at, unasked_line};
+ghost use Rattle.follow.specs.Handing.{IsCarryText, IsRunEnd, RunEnds, RunWentOut, run_lines, run_report, unasked_at, unasked_line, unaudited};
+ghost use Rattle.follow.specs.Handing as spec;
+ghost use Rattle.follow.specs.Pieces.{number_text};
 ghost use Rattle.follow.specs.Running.{Run};
 ghost use Rattle.follow.specs.SoFar.{IsFollowed};
 
@@ -25,7 +27,7 @@ use crate::heartbeat::push_number;
 use audit::{AuditFault, Verdict};
 use carry::write_carry;
 use devices::{Sink, Source};
-use findings::push_last_lines;
+use findings::{Finding, push_last_lines};
 use runs::{DeclaredLine, KeptLog, hand_on};
 use std::alloc::{AllocError, Global};
 use trace_lines::Trace;
@@ -37,12 +39,15 @@ use userset_index::UsersetIndex;
 pub struct RunEnd {
     /// Whether anything was told.
     pub verdict: Verdict,
-    /// The text of a carry, with which the next run begins. There is none where the log has no base.
+    /// How many entries came that ask below the base, and were not audited.
+    pub unaudited: usize,
+    /// The text of a carry, with which the next run begins. There is none where none was asked for, or the log has no
+    /// base.
     pub carry: Option<String>,
 }
 
-/// What a run hands on: the base of its carry is up to `oldest`, and `before` is the checksum of the carry that it
-/// began with.
+/// What a run hands on: the base of its carry is up to `oldest`, or is its log's first commit, and `before` is the
+/// checksum of the carry that it began with.
 #[derive(Clone, Copy)]
 pub struct Handing<'a> {
     pub oldest: u64,
@@ -75,39 +80,102 @@ fn push_unasked(trace: &Trace, base: u64, begun: usize, text: &mut String) -> Re
     Ok(())
 }
 
+/// How many entries from number `begun` on ask below the base.
+fn count_unaudited(trace: &Trace, base: u64, begun: usize) -> usize
+    requires { begun ≤ length trace.now.entries }
+    ensures { result ≡ unaudited base begun trace.now }
+{
+    let mut count = 0;
+    // each turn looks at an entry that came in this run
+    for i in begun..trace.len() {
+        if trace.entry(i).snapshot < base {
+            count += 1;
+        }
+    }
+    count
+}
+
+/// Appends words, a number, and words behind it.
+fn push_count(before: &str, number: u64, behind: &str, text: &mut String) -> Result<(), AllocError>
+    ensures { OnOk result (string_bytes text.new
+        ≡ string_bytes text.old ++ (before.now ++ number_text number behind.now)) }
+{
+    text.push_str(before)?;
+    push_number(number, behind, text)
+}
+
+/// Appends the last lines of a report; where nothing was found, and not all was audited, it is not clean.
+fn push_run_report(
+    told: &[Finding],
+    unaudited: usize,
+    entries: usize,
+    text: &mut String,
+) -> Result<(), AllocError>
+    ensures { OnOk result (string_bytes text.new
+        ≡ string_bytes text.old ++ run_report unaudited told.now entries) }
+{
+    if unaudited == 0 || !told.is_empty() {
+        return push_last_lines(told, entries, text);
+    }
+    push_count(
+        "entries ",
+        entries as u64,
+        "\nfindings 0\nverdict incomplete\n",
+        text,
+    )
+}
+
 /// The last lines of a run, of whose log so many entries stood there when it began.
-fn run_text(follower: &Follower, trace: &Trace, begun: usize) -> Result<String, AllocError>
+fn run_text(
+    follower: &Follower,
+    trace: &Trace,
+    begun: usize,
+    unaudited: usize,
+) -> Result<String, AllocError>
     requires begun { begun ≤ length trace.now.entries }
     requires stands { Stands trace.now follower.now.monitor }
     requires all { IsAtEnd trace.now follower.now.monitor }
+    requires unaudited { unaudited ≡ spec.unaudited follower.now.base begun trace.now }
     ensures { IfOk result (λ s. string_bytes s
         ≡ run_lines follower.now.base begun trace.now follower.now.told.items) }
 {
     let mut text = String::new(follower.alloc);
     push_unasked(trace, follower.base, begun, &mut text)?;
-    text.push_str("open ")?;
-    push_number(follower.monitor.count_open(trace) as u64, "\n", &mut text)?;
-    push_last_lines(&follower.told, trace.len() - begun, &mut text)?;
+    push_count("not audited ", unaudited as u64, "\n", &mut text)?;
+    let open = follower.monitor.count_open(trace) as u64;
+    push_count("open ", open, "\n", &mut text)?;
+    push_run_report(&follower.told, unaudited, trace.len() - begun, &mut text)?;
     Ok(text)
 }
 
-/// The text of a carry of a log behind so many lines, where it has a base.
+/// The timestamp up to which the base of a log's carry may be.
+fn last_base(trace: &Trace, oldest: u64) -> u64 {
+    match trace.chains().commits().first() {
+        Some(first) => oldest.max(*first),
+        None => oldest,
+    }
+}
+
+/// The text of a carry of a log behind so many lines, where one is asked for, and it has a base.
 fn handed_text(
     alloc: Global,
     trace: &Trace,
     declared: &[DeclaredLine],
     lines: u64,
-    handing: Handing<'_>,
+    handing: Option<Handing<'_>>,
 ) -> Result<Option<String>, AllocError>
     requires { AreDeclarationsOf trace.now (texts_of declared.now) }
     ensures { IfOk result (λ o. IfSome o (λ s. IsCarryText trace.now (string_bytes s))) }
 {
+    let Some(handing) = handing else {
+        return Ok(None);
+    };
     match hand_on(
         alloc,
         trace,
         declared,
         lines,
-        handing.oldest,
+        last_base(trace, handing.oldest),
         handing.before,
     )? {
         Some(carry) => Ok(Some(write_carry(alloc, &carry)?)),
@@ -115,13 +183,13 @@ fn handed_text(
     }
 }
 
-/// Writes the last lines of a run, and hands its log on, of which so many lines were read.
+/// Writes the last lines of a run, and hands its log on where that is asked for, of which so many lines were read.
 fn end_run<W: Sink>(
     log: KeptLog,
     usersets: UsersetIndex,
     read: u64,
     begun: usize,
-    handing: Handing<'_>,
+    handing: Option<Handing<'_>>,
     follower: &Follower,
     out: &mut W,
 ) -> Result<RunEnd, AuditFault>
@@ -136,10 +204,16 @@ fn end_run<W: Sink>(
     let (before, log, declared) = log.into_parts();
     let paused = log.pause(usersets);
     let lines = before.saturating_add(read);
-    let carry = handed_text(alloc, paused.trace(), &declared, lines, handing)?;
-    let text = run_text(follower, paused.trace(), begun)?;
-    let verdict = follower.verdict();
-    audit::tell(text.as_str(), RunEnd { verdict, carry }, out)
+    let trace = paused.trace();
+    let carry = handed_text(alloc, trace, &declared, lines, handing)?;
+    let unaudited = count_unaudited(trace, follower.base, begun);
+    let text = run_text(follower, trace, begun, unaudited)?;
+    let end = RunEnd {
+        verdict: follower.verdict(),
+        unaudited,
+        carry,
+    };
+    audit::tell(text.as_str(), end, out)
 }
 
 /// A follower that stands behind a log, and tells from its next line on of entries that ask at the base or above.
@@ -178,16 +252,17 @@ fn stand_behind(
 /// Follows the lines of a run behind a log, as [`follow`](crate::follow) does those of a trace: what was told of the
 /// log's own lines is not told again, and of entries that ask below the base, where the log does not know the store,
 /// nothing is told. At the end of the lines what no commit settles is not told: it goes on to the next run. Then come,
-/// for each entry that came and asks below the base, `line N: not audited, below B`; `open O`, for the entries that are
-/// not settled; and the last lines of the report, which count the entries that came and the findings of this run.
+/// for each entry that came and asks below the base, `line N: not audited, below B`; `not audited K`, for all of these;
+/// `open O`, for the entries that are not settled; and the last lines of the report, which count the entries that came
+/// and the findings of this run. Where nothing was found and K is not 0, the last is `verdict incomplete`.
 ///
-/// It gives the verdict of what was told, and what the next run begins with. A refusal of a line is told by the number
-/// of the line in the run; findings are told by those of the whole log.
+/// It gives the verdict of what was told, and what the next run begins with, where that is asked for. A refusal of a line
+/// is told by the number of the line in the run; findings are told by those of the whole log.
 pub fn follow_run<A: Source, W: Sink>(
     alloc: Global,
     log: KeptLog,
     base: u64,
-    handing: Handing<'_>,
+    handing: Option<Handing<'_>>,
     trace: &mut A,
     out: &mut W,
     heartbeats: bool,

@@ -26,7 +26,7 @@ unwritten_by e s is few = unwritten_without_device e (of_no_device e s is (λ fi
 
 module _ {F : Type 0} (left : Counted F → Option (List ℕ)) where
   -- what a file gave in all
-  few_in_all : (old new : Counted F) → moved_by old ≡ [] → GivesFew (reads moved_by stops_of failures_of left old new)
+  pub few_in_all : (old new : Counted F) → moved_by old ≡ [] → GivesFew (reads moved_by stops_of failures_of left old new)
       → length (moved_by new) ≤ MAX_INPUT + CHUNK
   few_in_all old new nothing h =
       let all : moved_by new ≡ h.0 = h.1 ∙ ap (λ (l : List ℕ). l ++ h.0) nothing in
@@ -121,7 +121,7 @@ pub devices_of_nothing : {F : Type 0} (s : ℕ) (w : Writer) → 2 ≤ s
 devices_of_nothing s w two =
     record {
       flushed = λ one. absurd (omega (arith, one, two));
-      device = λ five opened. absurd (opened refl);
+      device = λ five opened. absurd (true≢false (sym opened));
       kept = λ other. (refl, (refl, refl));
       unwritten = λ least most _. refl;
       most = tt;

@@ -70,8 +70,9 @@ module _ {F : Type 0} (left : Counted F → Option (List ℕ)) (a0 : Counted F) 
         dirty = dirty;
         refused = λ two. none (no_trace a0 (file_of x) unused.0 unused.1 answer s ends kinds h.trace_refused two);
         used = λ three. unread (ends_at_limits answer s ends three);
+        left_out = λ six. absurd (omega (arith, six, ends_few answer s ends));
         devices = devices_of_trace left a0 (file_of x) unused out s run opened Tells Breaks answer count each ends h;
-        statuses = ends_few answer s ends;
+        statuses = omega (arith, ends_few answer s ends);
       }
 
   -- status 0 says that all was told
@@ -183,9 +184,10 @@ module _ {F : Type 0} (left : Counted F → Option (List ℕ)) (a0 : Counted F) 
               (kinds-more (kind.trace ∷ kind.write ∷ kind.memory ∷ [])
               (kind.trace ∷ kind.write ∷ kind.memory ∷ kind.limits ∷ []) refl answer kinds) h.run.trace_refused two;
           used = λ three. never_limits answer kinds (ends_at_limits answer s ends three);
+          left_out = λ six. absurd (omega (arith, six, ends_few answer s ends));
           devices = devices_of_follow left a0 (file_of x) unused out s (ran.Followed x) (λ is. absurd (cc (is))) answer refl
               (λ P p. p) refl ends h;
-          statuses = ends_few answer s ends;
+          statuses = omega (arith, ends_few answer s ends);
         }
 
   module _ (b0 : Counted F) (y : Opened F) (unused_yet : IsUnused b0) (answer : Result Verdict AuditFault)
@@ -259,8 +261,9 @@ module _ {F : Type 0} (left : Counted F → Option (List ℕ)) (a0 : Counted F) 
                 ap (λ (file : Counted F). moved_by file) same.0 ∙ unused.0,
                 ap (λ (file : Counted F). moved_by file) same.1 ∙ unused_yet.0,
               );
+          left_out = λ six. absurd (omega (arith, six, ends_few answer s ends));
           devices = devices_of_audit left a0 b0 x y out s answer unused unused_yet ends h;
-          statuses = ends_few answer s ends;
+          statuses = omega (arith, ends_few answer s ends);
         }
 
 -- where no file was opened
@@ -273,8 +276,9 @@ runs_nothing word s w two few =
       dirty = λ one. absurd (omega (arith, one, two));
       refused = λ is. tt;
       used = λ three. tt;
+      left_out = λ six. absurd (omega (arith, six, few));
       devices = devices_of_nothing s w two;
-      statuses = few;
+      statuses = omega (arith, few);
     }
 
 -- a run that ended so

@@ -1,3 +1,5 @@
+pub mod CarryRuns
+pub mod CarryStatuses
 pub mod DeviceStatuses
 pub mod FileRuns
 pub mod FileStatuses

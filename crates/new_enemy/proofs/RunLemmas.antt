@@ -1,6 +1,7 @@
 -- What a run says, from what its command does.
 use Rattle.std.proofs.Common.{◌≡◌, ◌≢◌, ◌⊎◌, inl, inr, ℕ, ◌+◌, ◌<◌, ◌≤◌, true, List, [], ◌∷◌, Option, Some, None, codes, refl, sym, subst, map, ◌∙◌, arith, Bool, Bor, option_map, false, Global}
 use Rattle.std.specs.Prelude.{IfSome, slice_get, String, string_bytes, ◌++◌}
+use Rattle.std.proofs.lemmas.Bool.{true≢false}
 use Rattle.audit.specs.Devices.{Reader, Reading, Writer, Writing, ReaderFailed, WriterFailed, WriterNeverFailed, StandsBehind}
 use Rattle.audit.proofs.Readers.{few_at_rest, next_at_rest}
 use Rattle.command_line.specs.Asked.{AreTaken, AskForHelp, Asked, IsAskedBy, Write, command_of, is_plain_word}
@@ -22,6 +23,7 @@ module _ {F : Type 0} {J J' : Type 0} (old new : List ℕ) where
   of_joined (ran.Made t) joined h = h
   of_joined (ran.Told t) joined h = h
   of_joined (ran.Followed t) joined h = h
+  of_joined (ran.WentOn t from to) joined h = h
   of_joined (ran.Shown text) joined h = h
   of_joined ran.Nothing joined h = h
 
@@ -30,6 +32,7 @@ module _ {F : Type 0} {J J' : Type 0} (old new : List ℕ) where
   dirty_joined (ran.Audited t e) joined h = h
   dirty_joined (ran.AuditedAlone t) joined h = h
   dirty_joined (ran.Followed t) joined h = h
+  dirty_joined (ran.WentOn t from to) joined h = h
   dirty_joined _ joined h = h
 
   refused_joined : (r : Ran F) → (J → J') → HasRefused J r → HasRefused J' r
@@ -39,6 +42,7 @@ module _ {F : Type 0} {J J' : Type 0} (old new : List ℕ) where
   refused_joined (ran.Made t) joined h = h
   refused_joined (ran.Told t) joined h = h
   refused_joined (ran.Followed t) joined h = h
+  refused_joined (ran.WentOn t from to) joined h = h
   refused_joined (ran.Shown text) joined h = h
   refused_joined ran.Nothing joined h = h
 
@@ -51,13 +55,14 @@ says_of_joined input out s h =
       flushed = λ one _. h.flushed one;
       refused = h.refused;
       used = h.statuses.1;
+      left_out = λ six. absurd (omega (arith, six, h.statuses.0));
       device = λ five opened. of_device (h.device five);
       kept = λ other. let none = h.kept other in (none.0, refl, none.1);
       unwritten = λ two four _. h.unwritten two four;
       most = (h.most, tt);
       known = h.known;
       held = h.held;
-      statuses = h.statuses.0;
+      statuses = omega (arith, h.statuses.0);
     }
   where
     of_device : ReaderFailed input ⊎ WriterFailed out → (ReaderFailed input ⊎ (0 < 0)) ⊎ WriterFailed out
@@ -76,6 +81,7 @@ module _ {F : Type 0} (r : Reader) where
         flushed = h.devices.flushed;
         refused = λ two. refused_joined old new run (λ none. absurd none) (h.refused two);
         used = h.used;
+        left_out = h.left_out;
         device = λ five opened. of_device (h.devices.device five opened);
         kept = λ other. let none = h.devices.kept other in (refl, none.0, none.1);
         unwritten = h.devices.unwritten;
@@ -106,6 +112,7 @@ module _ {F : Type 0} (r : Reader) where
         flushed = λ _ _. flushed;
         refused = λ two. absurd (omega (arith, two));
         used = λ three. absurd (omega (arith, three));
+        left_out = λ six. absurd (omega (arith, six));
         device = λ five opened. absurd (omega (arith, five));
         kept = λ other. (refl, refl, sent);
         unwritten = λ two. absurd (omega (arith, two));
@@ -124,7 +131,8 @@ module _ {F : Type 0} (r : Reader) where
         flushed = λ one. absurd (omega (arith, one));
         refused = λ _. tt;
         used = λ _. tt;
-        device = λ is opened. absurd (opened refl);
+        left_out = λ six. absurd (omega (arith, six));
+        device = λ is opened. absurd (true≢false (sym opened));
         kept = λ other. absurd (other refl);
         unwritten = λ two four. absurd (omega (arith, four));
         most = (few_at_rest r, tt);
@@ -148,7 +156,9 @@ joined_is_asked (asked.audits t (Some e) w n early) old new s ran.Joined h is = 
 joined_is_asked (asked.audits t None w n early) old new s ran.Joined h is = absurd h
 joined_is_asked (asked.makes t list) old new s ran.Joined h is = absurd h
 joined_is_asked (asked.tells t u) old new s ran.Joined h is = absurd h.2
-joined_is_asked (asked.follows t heartbeat) old new s ran.Joined h is = absurd h
+joined_is_asked (asked.follows t (Some f) carry oldest heartbeat) old new s ran.Joined h is = absurd h
+joined_is_asked (asked.follows t None (Some c) oldest heartbeat) old new s ran.Joined h is = absurd h
+joined_is_asked (asked.follows t None None oldest heartbeat) old new s ran.Joined h is = absurd h
 joined_is_asked _ old new s run h is = absurd (cc (is))
 
 module _ {F : Type 0} (old new : List ℕ) (s : ℕ) (run : Ran F) where
@@ -171,6 +181,7 @@ module _ {F : Type 0} (old new : List ℕ) (s : ℕ) (run : Ran F) where
       of_none (ran.Made t) unread = absurd (unread tt)
       of_none (ran.Told t) unread = absurd (unread tt)
       of_none (ran.Followed t) unread = absurd (unread tt)
+      of_none (ran.WentOn t from to) unread = absurd (unread tt)
 
   -- where something was read, words that ask for it are found
   found_asked : (words : List (List ℕ)) (o : Option Asked) → IfSome o (IsAskedBy words)
@@ -205,8 +216,8 @@ module _ {F : Type 0} (old new : List ℕ) (s : ℕ) (run : Ran F) where
           → ((t : List ℕ) → words ≡ codes "make" ∷ t ∷ [] → is_plain_word t ≡ true → o ≡ Some (asked.makes t false))
           → ((t u : List ℕ) → words ≡ codes "history" ∷ t ∷ u ∷ [] → is_plain_word t ≡ true → is_plain_word u ≡ true
           → o ≡ Some (asked.tells t u))
-          → ((t : List ℕ) → words ≡ codes "follow" ∷ t ∷ [] → is_plain_word t ≡ true → o ≡ Some (asked.follows t false))
-          → (words ≡ codes "follow" ∷ [] → o ≡ Some (asked.follows (codes "/dev/stdin") false))
+          → ((t : List ℕ) → words ≡ codes "follow" ∷ t ∷ [] → is_plain_word t ≡ true → o ≡ Some (asked.follows t None None None false))
+          → (words ≡ codes "follow" ∷ [] → o ≡ Some (asked.follows (codes "/dev/stdin") None None None false))
           → (AreTaken words → (a : Asked) → Write words a → o ≡ Some a)
           → (is_shown run ≡ true → AskForHelp words)
           → IfSome o (λ a. slice_get words 0 ≡ command_of a)
@@ -219,8 +230,8 @@ module _ {F : Type 0} (old new : List ℕ) (s : ℕ) (run : Ran F) where
             audit_made = λ t is p. asked_is o (asked.audits t None 1 64 false) P (audit_made t is p) by;
             make = λ t is p. asked_is o (asked.makes t false) P (make t is p) by;
             history = λ t u is p q. asked_is o (asked.tells t u) P (history t u is p q) by;
-            follow = λ t is p. asked_is o (asked.follows t false) P (follow t is p) by;
-            follow_input = λ is. asked_is o (asked.follows (codes "/dev/stdin") false) P (follow_input is) by;
+            follow = λ t is p. asked_is o (asked.follows t None None None false) P (follow t is p) by;
+            follow_input = λ is. asked_is o (asked.follows (codes "/dev/stdin") None None None false) P (follow_input is) by;
             taken = λ takes a writes. asked_is o a P (taken takes a writes) by;
             shown = shown;
             first = named_run (slice_get words 0) o first command none;

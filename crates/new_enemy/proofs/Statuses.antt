@@ -37,7 +37,7 @@ two_or_five s two five = absurd (omega (arith, two, five))
 
 -- ---- the status of a fault
 
-status_few : (e : AuditFault) (s : ℕ) → IsStatus e s → s ≤ 5
+pub status_few : (e : AuditFault) (s : ℕ) → IsStatus e s → s ≤ 5
 status_few (faults.Trace f) s (inl p) = omega (arith, p.1)
 status_few (faults.Trace f) s (inr p) = omega (arith, p.1)
 status_few (faults.Evidence f) s (inl p) = omega (arith, p.1)
@@ -48,7 +48,7 @@ status_few faults.Limits s is = omega (arith, is)
 status_few faults.Joined s is = omega (arith, is)
 status_few faults.Input s is = omega (arith, is)
 
-three_is_limits : (e : AuditFault) (s : ℕ) → IsStatus e s → s ≡ 3 → e ≡ faults.Limits
+pub three_is_limits : (e : AuditFault) (s : ℕ) → IsStatus e s → s ≡ 3 → e ≡ faults.Limits
 three_is_limits (faults.Trace f) s (inl p) three = absurd (omega (arith, p.1, three))
 three_is_limits (faults.Trace f) s (inr p) three = absurd (omega (arith, p.1, three))
 three_is_limits (faults.Evidence f) s (inl p) three = absurd (omega (arith, p.1, three))

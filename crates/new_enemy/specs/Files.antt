@@ -1,5 +1,5 @@
 -- What the program answers of files, by all that they gave.
-use Rattle.std.specs.Prelude.{◌≡◌, ℕ, ◌+◌, List, ⊤}
+use Rattle.std.specs.Prelude.{◌≡◌, ℕ, ◌+◌, List, Option, Some, None, ⊤}
 use Rattle.devices.specs.Devices.{moved_by, failures_of, stops_of}
 use Rattle.devices.specs.declared.counted.Counted.{Counted}
 use Rattle.tuple_text.specs.Tuples.{TupleValue}
@@ -15,6 +15,9 @@ use Rattle.follow.specs.Following.{Follows}
 use Rattle.audit.specs.declared.plain.Verdict.TheVariants.{Clean, Dirty}
 use Rattle.new_enemy.specs.Opened.{file_of}
 use Rattle.new_enemy.specs.Run.{SayNoTrace, SayNoAudit, OfEveryInput}
+use Rattle.new_enemy.specs.declared.carrying.Handed.{Handed}
+use Rattle.new_enemy.specs.declared.carrying.Handed.TheVariants as handed
+use Rattle.new_enemy.specs.declared.opened.Opened.{Opened}
 use Rattle.new_enemy.specs.declared.run.Ran.{Ran}
 use Rattle.new_enemy.specs.declared.run.Ran.TheVariants as ran
 
@@ -78,6 +81,16 @@ IsNoTrace trace = OfEveryInput trace SayNoTrace
 abbrev pub IsNoAudit : {F : Type 0} → Counted F → Counted F → Type 0
 IsNoAudit trace evidence = OfEveryInput trace (λ a. OfEveryInput evidence (λ b. SayNoAudit a b))
 
+-- how often the file of a carry failed, where there is one
+abbrev pub failures_from : {F : Type 0} → Option (Opened F) → ℕ
+failures_from None = 0
+failures_from (Some from) = failures_of (file_of from)
+
+-- the same of one that a carry went to, or it took none of some bytes
+abbrev pub failures_to : {F : Type 0} → Handed F → ℕ
+failures_to (handed.Made made) = failures_of (file_of made) + stops_of (file_of made)
+failures_to _ = 0
+
 -- how often the files of a run failed
 abbrev pub file_failures : {F : Type 0} → Ran F → ℕ
 file_failures (ran.Audited trace evidence) = failures_of (file_of trace) + failures_of (file_of evidence)
@@ -85,17 +98,20 @@ file_failures (ran.AuditedAlone trace) = failures_of (file_of trace)
 file_failures (ran.Made trace) = failures_of (file_of trace)
 file_failures (ran.Told trace) = failures_of (file_of trace)
 file_failures (ran.Followed trace) = failures_of (file_of trace)
+file_failures (ran.WentOn trace from to) = (failures_of (file_of trace) + failures_from from) + failures_to to
 file_failures ran.Joined = 0
 file_failures (ran.Shown text) = 0
 file_failures ran.Nothing = 0
 
--- what holds of each file of a run
+-- what holds of each file that a run read
 abbrev pub OfFiles : {F : Type 0} → Ran F → (Counted F → Type 0) → Type 0
 OfFiles (ran.Audited trace evidence) P = P (file_of trace) × P (file_of evidence)
 OfFiles (ran.AuditedAlone trace) P = P (file_of trace)
 OfFiles (ran.Made trace) P = P (file_of trace)
 OfFiles (ran.Told trace) P = P (file_of trace)
 OfFiles (ran.Followed trace) P = P (file_of trace)
+OfFiles (ran.WentOn trace None to) P = P (file_of trace)
+OfFiles (ran.WentOn trace (Some from) to) P = P (file_of trace) × P (file_of from)
 OfFiles ran.Joined P = ⊤
 OfFiles (ran.Shown text) P = ⊤
 OfFiles ran.Nothing P = ⊤

@@ -1,3 +1,4 @@
+pub mod Carrying
 pub mod Files
 pub mod Opened
 pub mod Outcomes

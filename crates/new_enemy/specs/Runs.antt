@@ -1,5 +1,5 @@
 -- What a run says by its status: of what it read, and of the writer that its answer goes to.
-use Rattle.std.specs.Prelude.{◌≡◌, ◌≢◌, ◌⊎◌, ℕ, ◌+◌, ◌<◌, ◌≤◌, false, List, Some, length}
+use Rattle.std.specs.Prelude.{◌≡◌, ◌≢◌, ◌⊎◌, ℕ, ◌+◌, ◌<◌, ◌≤◌, true, false, List, Some, length}
 use Rattle.devices.specs.Devices.{moved_by}
 use Rattle.json_lines.specs.declared.lines.TheConstants.{CHUNK}
 use Rattle.json_lines.specs.declared.reading.TheConstants.{MAX_INPUT}
@@ -11,7 +11,7 @@ use Rattle.findings.specs.EachEntry.{TellsOfEachEntry}
 use Rattle.findings.specs.Headline.{IsTraceRightAndFresh}
 use Rattle.findings.specs.WrongReplies.{NamesOnlyWrongReplies}
 use Rattle.new_enemy.specs.Files.{OfFiles, file_failures}
-use Rattle.new_enemy.specs.Outcomes.{HasSucceeded, HasFoundDirty, HasRefused, HasReadNothing, SaysOfDevices, is_followed}
+use Rattle.new_enemy.specs.Outcomes.{HasSucceeded, HasFoundDirty, HasLeftOut, HasRefused, HasReadNothing, SaysOfDevices, is_followed, is_opened}
 use Rattle.new_enemy.specs.Run.{IsRefused}
 use Rattle.new_enemy.specs.Words.{IsOfCommand}
 use Rattle.new_enemy.specs.declared.run.Ran.{Ran}
@@ -56,8 +56,9 @@ pub record RunsFiles {F : Type 0} (word : List ℕ) (out : Writing) (status : �
   pub dirty : status ≡ 1 → HasFoundDirty ⊥ out.before.taken out.after.taken run
   pub refused : status ≡ 2 → HasRefused ⊥ run
   pub used : status ≡ 3 → HasReadNothing run
+  pub left_out : status ≡ 6 → HasLeftOut out.before.taken out.after.taken run
   pub devices : SaysOfDevices status run out
-  pub statuses : status ≤ 5
+  pub statuses : status ≤ 6
 
 -- The status of any run.
 pub record SaysOfRun {F : Type 0} (input : Reading) (out : Writing) (status : ℕ) (run : Ran F) : Type 0 where
@@ -68,9 +69,10 @@ pub record SaysOfRun {F : Type 0} (input : Reading) (out : Writing) (status : �
   -- of every input that begins with the bytes that came
   pub refused : status ≡ 2 → HasRefused (OfInput input IsRefused) run
   pub used : status ≡ 3 → HasReadNothing run
+  pub left_out : status ≡ 6 → HasLeftOut out.before.taken out.after.taken run
   -- it is 5 only where a device failed, took none of some bytes, or could not be opened, and any other only where
   -- none did
-  pub device : status ≡ 5 → run ≢ ran.Nothing → (ReaderFailed input ⊎ (0 < file_failures run)) ⊎ WriterFailed out
+  pub device : status ≡ 5 → is_opened run ≡ true → (ReaderFailed input ⊎ (0 < file_failures run)) ⊎ WriterFailed out
   pub kept : status ≢ 5 → ReaderNeverFailed input × (file_failures run ≡ 0) × WriterNeverFailed out
   -- of what is followed what was told before stands
   pub unwritten : 2 ≤ status → status ≤ 4 → is_followed run ≡ false → TookNothing out
@@ -80,4 +82,4 @@ pub record SaysOfRun {F : Type 0} (input : Reading) (out : Writing) (status : �
   -- end; and what went out stands behind what the writer held
   pub known : GivesNext input
   pub held : StandsBehind out
-  pub statuses : status ≤ 5
+  pub statuses : status ≤ 6

@@ -1,5 +1,5 @@
 -- Which words ask for which run.
-use Rattle.std.specs.Prelude.{◌≡◌, ◌↔◌, ◌⊎◌, ℕ, Bool, true, false, List, [], ◌∷◌, Option, Some, None, Ok, Err, codes, slice_get, ⊤}
+use Rattle.std.specs.Prelude.{◌≡◌, ◌↔◌, ◌⊎◌, ◌≤◌, ℕ, Bool, true, false, List, [], ◌∷◌, Option, Some, None, Ok, Err, codes, option_map, slice_get, ⊤}
 use Rattle.tuple_text.specs.Reading.{tuple_at}
 use Rattle.tuple_text.specs.Tuples.{TupleValue}
 use Rattle.tuple_text.specs.declared.fault.TupleFault.{TupleFault}
@@ -8,6 +8,8 @@ use Rattle.command_line.specs.Asked as asked
 use Rattle.audit.specs.Shared.{are_within_limits}
 use Rattle.new_enemy.specs.Files.{IsToldHistory}
 use Rattle.new_enemy.specs.Opened.{file_of, path_of}
+use Rattle.new_enemy.specs.declared.carrying.Handed.{Handed}
+use Rattle.new_enemy.specs.declared.carrying.Handed.TheVariants as handed
 use Rattle.new_enemy.specs.declared.run.Ran.{Ran}
 use Rattle.new_enemy.specs.declared.run.Ran.TheVariants as ran
 
@@ -45,6 +47,19 @@ RanFollow t status (ran.Followed trace) = path_of trace ≡ t
 RanFollow t status ran.Nothing = IsHindered status
 RanFollow t status _ = ⊥
 
+-- what was handed on: a carry where a path is given, to the file of that path, or the run was stopped
+abbrev pub IsHandedTo : {F : Type 0} → Option (List ℕ) → ℕ → Handed F → Type 0
+IsHandedTo path status handed.Nothing = (path ≡ None) ⊎ ((2 ≤ status) × (status ≤ 5))
+IsHandedTo path status handed.NotMade = status ≡ 5
+IsHandedTo path status (handed.Made made) = path ≡ Some (path_of made)
+
+-- a trace was followed behind the carry of the second path, where there is one, and a carry handed on to the third
+abbrev pub RanOn : {F : Type 0} → List ℕ → Option (List ℕ) → Option (List ℕ) → ℕ → Ran F → Type 0
+RanOn t from carry status (ran.WentOn trace begun to) =
+    (path_of trace ≡ t) × (option_map path_of begun ≡ from) × IsHandedTo carry status to
+RanOn t from carry status ran.Nothing = IsHindered status
+RanOn t from carry status _ = ⊥
+
 -- the tuple's history went out, where the status is 0
 abbrev pub RanHistoryOf : {F : Type 0} → List ℕ → TupleValue → (old new : List ℕ) → ℕ → Ran F → Type 0
 RanHistoryOf t tuple old new status (ran.Told trace) =
@@ -65,7 +80,8 @@ RanAsked (asked.audits t (Some e) workers slice early) old new status run = RanA
 RanAsked (asked.audits t None workers slice early) old new status run = RanAuditAlone t workers slice status run
 RanAsked (asked.makes t list) old new status run = RanMake t status run
 RanAsked (asked.tells t u) old new status run = RanHistory t u old new status run
-RanAsked (asked.follows t heartbeat) old new status run = RanFollow t status run
+RanAsked (asked.follows t None None oldest heartbeat) old new status run = RanFollow t status run
+RanAsked (asked.follows t from carry oldest heartbeat) old new status run = RanOn t from carry status run
 
 -- something was read, or was to be
 abbrev pub HasRead : {F : Type 0} → Ran F → Type 0
@@ -86,6 +102,7 @@ IsOfCommand word (ran.AuditedAlone trace) = word ≡ Some (codes "audit")
 IsOfCommand word (ran.Made trace) = word ≡ Some (codes "make")
 IsOfCommand word (ran.Told trace) = word ≡ Some (codes "history")
 IsOfCommand word (ran.Followed trace) = word ≡ Some (codes "follow")
+IsOfCommand word (ran.WentOn trace from to) = word ≡ Some (codes "follow")
 IsOfCommand word (ran.Shown text) = ⊤
 IsOfCommand word ran.Nothing = ⊤
 

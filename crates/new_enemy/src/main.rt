@@ -9,6 +9,7 @@
 //! all that was read is a trace that is right and fresh, and evidence for it, and the report on them went out whole.
 #![tactic(auto)]
 
+mod carrying;
 mod files;
 mod joined;
 mod opened;

@@ -1,28 +1,30 @@
 //! The program, over any runtime, reader and writers.
 
-ghost use Rattle.std.specs.Prelude.{◌≡◌, ◌≢◌, ◌↔◌, ◌+◌, ◌<◌, ◌≤◌, [], length, map, None, Some, false, true, codes, IfSome, string_bytes, option_map};
+ghost use Rattle.std.specs.Prelude.{ℕ, Option, ◌≡◌, ◌≢◌, ◌↔◌, ◌+◌, ◌<◌, ◌≤◌, [], length, map, None, Some, false, true, codes, IfSome, string_bytes, option_map};
 ghost use Rattle.devices.specs.Devices.{moved_by, failures_of, stops_of};
 ghost use Rattle.json_lines.specs.declared.lines.TheConstants.{CHUNK};
 ghost use Rattle.json_lines.specs.declared.reading.TheConstants.{MAX_INPUT};
-ghost use Rattle.command_line.specs.Asked.{asked_by, asked_in, command_of, is_to_show};
+ghost use Rattle.command_line.specs.Asked.{asked_by, asked_in, command_of, follows, is_to_show};
 ghost use Rattle.audit.specs.Devices.{reads, writes};
 ghost use Rattle.audit.specs.Shared.{are_within_limits};
 ghost use Rattle.new_enemy.specs.Files.{OfFiles, file_failures};
 ghost use Rattle.new_enemy.specs.Opened.{IsUnread, file_of, path_of};
-ghost use Rattle.new_enemy.specs.Outcomes.{HasSucceeded, HasFoundDirty, HasRefused, HasReadNothing, is_followed};
+ghost use Rattle.new_enemy.specs.Outcomes.{HasSucceeded, HasFoundDirty, HasRefused, HasLeftOut, HasReadNothing, is_followed, is_opened};
 ghost use Rattle.new_enemy.specs.Run.{IsRefused, OfEveryInput, IsCleanRun, IsDirtyRun};
 ghost use Rattle.new_enemy.specs.Runs.{RunsFiles, SaysOfRun};
-ghost use Rattle.new_enemy.specs.Words.{HasRead, IsAsked, IsOfCommand, is_shown, RanAsked, RanAudit, RanAuditAlone, RanFollow, RanMake, RanHistory};
+ghost use Rattle.new_enemy.specs.Words.{HasRead, IsAsked, IsOfCommand, is_shown, RanAsked, RanAudit, RanAuditAlone, RanMake, RanHistory};
 ghost use Rattle.new_enemy.specs.declared.run.Ran.TheVariants as ran;
 
+use crate::carrying::{Carrying, Handed, run_behind, run_first};
 use crate::files::{Sharing, run_audit, run_audit_made, run_follow, run_history, run_make};
 use crate::joined::run_joined;
 use crate::opened::{Opened, open};
-use crate::status::{tell, tell_path, tell_tuple};
+use crate::status::{tell, tell_path, tell_there, tell_tuple};
 use audit::AuditFault;
 use command_line::{Answer, Request, read_words};
 use devices::{Counted, Sink, Source, send};
 use std::alloc::Global;
+use std::fs;
 use std::fs::Files;
 use std::io::{Read, Write};
 use std::sync::Wait;
@@ -44,6 +46,8 @@ pub enum Ran<F> {
     Told(Opened<F>),
     /// The trace that was followed.
     Followed(Opened<F>),
+    /// The trace of a run, the carry that it began with, where there was one, and the file that it handed on to.
+    WentOn(Opened<F>, Option<Opened<F>>, Handed<F>),
     /// Nothing: this text of help or of the version went out.
     Shown(String),
     /// No file, or not all that the command names.
@@ -170,23 +174,66 @@ fn history_in_path<W: Sink, E: Sink, P: Files>(
     run_history(alloc, trace, &tuple, out, err)
 }
 
-/// The trace of a path, as it comes.
-fn follow_path<W: Sink, E: Sink, P: Files>(
+/// Whether a file stands where one is to be made, which is told then.
+fn is_there<P: Files, E: Sink>(rt: &P, carrying: Option<Carrying<'_>>, err: &mut E) -> bool {
+    let Some(carrying) = carrying else {
+        return false;
+    };
+    match fs::exists(rt, carrying.path) {
+        Ok(true) => {
+            tell_there(err, carrying.path);
+            true
+        }
+        _ => false,
+    }
+}
+
+/// The trace of a path, as it comes; behind the carry of another path, where there is one.
+fn follow_paths<W: Sink, E: Sink, P: Files>(
     rt: &P,
     alloc: Global,
-    trace: &str,
+    paths: (&str, Option<&str>),
+    carrying: Option<Carrying<'_>>,
     heartbeats: bool,
     out: &mut W,
     err: &mut E,
 ) -> Done<P::File>
     ensures runs { RunsFiles (codes "follow")
         (writes W.taken W.flushes W.failures W.idle W.contents out.old out.new) result.status result.read }
-    ensures ran { RanFollow trace.now result.status result.read }
+    ensures ran { (oldest : Option ℕ) → RanAsked (follows paths.entry.0.now (option_map (λ s. s.now) paths.entry.1)
+        (option_map (λ c. c.path.now) carrying.entry) oldest heartbeats)
+        (W.taken out.old) (W.taken out.new) result.status result.read }
 {
+    let (trace, from) = paths;
+    if is_there(rt, carrying, err) {
+        return Done::nothing(5);
+    }
     let Some(trace) = open_or_tell(rt, trace, err) else {
         return Done::nothing(5);
     };
-    run_follow(alloc, trace, heartbeats, out, err)
+    let Some(from) = from else {
+        return match carrying {
+            Some(carrying) => run_first(rt, alloc, trace, carrying, heartbeats, out, err),
+            None => run_follow(alloc, trace, heartbeats, out, err),
+        };
+    };
+    let Some(from) = open_or_tell(rt, from, err) else {
+        return Done::nothing(5);
+    };
+    run_behind(rt, alloc, trace, from, carrying, heartbeats, out, err)
+}
+
+/// What a run is to hand on: its base stays where no timestamp is given.
+fn carrying_of(carry: Option<&str>, oldest: Option<u64>) -> Option<Carrying<'_>>
+    ensures { option_map (λ c. c.path.now) result ≡ option_map (λ s. s.now) carry.entry }
+{
+    match carry {
+        Some(path) => Some(Carrying {
+            path,
+            oldest: oldest.unwrap_or(0),
+        }),
+        None => None,
+    }
 }
 
 /// Runs what is asked for.
@@ -225,7 +272,16 @@ fn run_request<R: Source, W: Sink, E: Sink, P: Files + Threads + Wait + Sync>(
         }
         Request::Make { trace, list } => make_for_path(rt, alloc, trace, list, out, err),
         Request::History { trace, tuple } => history_in_path(rt, alloc, trace, tuple, out, err),
-        Request::Follow { trace, heartbeat } => follow_path(rt, alloc, trace, heartbeat, out, err),
+        Request::Follow {
+            trace,
+            from,
+            carry,
+            oldest,
+            heartbeat,
+        } => {
+            let carrying = carrying_of(carry, oldest);
+            follow_paths(rt, alloc, (trace, from), carrying, heartbeat, out, err)
+        }
     }
 }
 
@@ -272,7 +328,8 @@ fn run_answer<R: Source, W: Sink, E: Sink, P: Files + Threads + Wait + Sync>(
 
 /// Runs the program on the words after its name, and answers its exit status and what it read: 0 for clean, for
 /// evidence that is made, for a history that is told and for help that went out, 1 for dirty, 2 for refused input, 3
-/// for usage, 4 for out of memory, 5 for a device that failed and a file that could not be opened.
+/// for usage, 4 for out of memory, 5 for a device that failed and a file that could not be opened, 6 for a run in which
+/// nothing was found and not all was audited.
 ///
 /// Without words it audits joined input. A report, evidence, a history or the text of help goes to `out`; a fault is
 /// told to `err` in one line, and a failure of `err` changes nothing else.
@@ -324,7 +381,7 @@ pub fn run_on<R: Read, W: Write, E: Write, P: Files + Threads + Wait + Sync>(
         → HasFoundDirty (IsDirtyRun result.input result.out) [] (moved_by result.out) result.read }
     ensures refused { result.status ≡ 2 → HasRefused (OfEveryInput result.input IsRefused) result.read }
     ensures used { result.status ≡ 3 → HasReadNothing result.read }
-    ensures device { result.status ≡ 5 → result.read ≢ ran.Nothing
+    ensures device { result.status ≡ 5 → is_opened result.read ≡ true
         → 0 < (failures_of result.input + file_failures result.read) + (failures_of result.out + stops_of result.out) }
     ensures kept { result.status ≢ 5 → (failures_of result.input ≡ 0) × (file_failures result.read ≡ 0)
         × (failures_of result.out ≡ 0) × (stops_of result.out ≡ 0) }
@@ -334,7 +391,8 @@ pub fn run_on<R: Read, W: Write, E: Write, P: Files + Threads + Wait + Sync>(
         → moved_by result.out ≡ [] }
     ensures most { (length (moved_by result.input) ≤ MAX_INPUT + CHUNK)
         × OfFiles result.read (λ file. length (moved_by file) ≤ MAX_INPUT + CHUNK) }
-    ensures statuses { result.status ≤ 5 }
+    ensures left_out { result.status ≡ 6 → HasLeftOut [] (moved_by result.out) result.read }
+    ensures statuses { result.status ≤ 6 }
 {
     let mut input = Counted::new(input);
     let mut out = Counted::new(out);

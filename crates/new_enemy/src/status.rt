@@ -1,12 +1,14 @@
 //! Exit statuses, and the lines that tell why there is no answer.
 
 ghost use Rattle.std.specs.Prelude.{◌≡◌, ◌≢◌, ◌≤◌};
+ghost use Rattle.new_enemy.specs.Carrying.{IsStatusOfRefusal};
 ghost use Rattle.new_enemy.specs.Run.{IsStatus, IsStatusOf};
 
 use arrayvec::ArrayString;
 use audit::{AuditFault, Verdict};
 use devices::{Sink, send};
 use evidence_check::{EvidenceCause, EvidenceFault};
+use follow::CarryRefusal;
 use std::fmt::Write as _;
 use std::io::ErrorKind;
 use trace_lines::{Cause, TraceFault};
@@ -67,6 +69,44 @@ pub fn status_with<E: Sink>(answer: Result<Verdict, AuditFault>, err: &mut E) ->
         Ok(Verdict::Dirty) => 1,
         Err(fault) => fail(err, &fault),
     }
+}
+
+/// The exit status of a carry that is refused.
+fn status_of_refusal(refusal: &CarryRefusal) -> u8
+    ensures { IsStatusOfRefusal refusal.now result }
+{
+    match refusal {
+        CarryRefusal::Read => 5,
+        CarryRefusal::OutOfMemory => 4,
+        CarryRefusal::TooLong => 2,
+        CarryRefusal::Form(_) => 2,
+        CarryRefusal::Log(_) => 2,
+    }
+}
+
+/// Tells why a carry begins no run, and answers the exit status.
+pub fn fail_to_begin<E: Sink>(err: &mut E, refusal: &CarryRefusal) -> u8
+    ensures { IsStatusOfRefusal refusal.now result }
+{
+    let mut line = ArrayString::<LINE>::new();
+    let _ = writeln!(line, "{refusal}");
+    let _ = send(err, line.as_str().as_bytes());
+    status_of_refusal(refusal)
+}
+
+/// Tells that a run has no carry to hand on.
+pub fn tell_without_carry<E: Sink>(err: &mut E) {
+    let _ = send(
+        err,
+        b"no carry: no commit stands in front of all entries that wait for one\n",
+    );
+}
+
+/// Writes the line of a file that stands where one is to be made.
+pub fn tell_there<E: Sink>(err: &mut E, path: &str) {
+    let _ = send(err, b"there already: ");
+    let _ = send(err, path.as_bytes());
+    let _ = send(err, b"\n");
 }
 
 /// Tells why the words after the program's name could not be read, and answers the exit status: 4 for want of

@@ -9,6 +9,7 @@ copy the file of a case that is near, say in it what is given and what has to co
     {"kind":"commit","at":5}
     -- stdin --                          and so `stdout` and `stderr`, what has to stand there. A part that is left out is empty
     -- stdout anything --                any bytes may stand there; so with `stderr`
+    -- wrote c --                        what has to stand in a file of the folder when the run has ended
     -- then --                           a second run follows in the same folder, and begins with its words
 
 The keys, each on a line of its own:
@@ -51,6 +52,7 @@ class Run(NamedTuple):
     stdin: List[Piece]
     stdout: Optional[bytes]
     stderr: Optional[bytes]
+    wrote: Dict[str, bytes]
     status: int
     room: Optional[int]
     is_unreadable: bool
@@ -170,28 +172,38 @@ def _pieces(lines: _Lines, may_be_made: bool) -> List[Piece]:
     return pieces
 
 
-def _parts(lines: _Lines, is_second: bool) -> Tuple[Dict[str, List[Piece]], Dict[str, Optional[List[Piece]]]]:
-    """The files of a run, and its standard streams; None for one that may be anything."""
+class _Parts(NamedTuple):
+    """The files of a run, what it has to write to others, and its standard streams; None for one that may be anything."""
+    files: Dict[str, List[Piece]]
+    wrote: Dict[str, bytes]
+    streams: Dict[str, Optional[List[Piece]]]
+
+
+def _parts(lines: _Lines, is_second: bool) -> _Parts:
     files: Dict[str, List[Piece]] = {}
+    wrote: Dict[str, bytes] = {}
     streams: Dict[str, Optional[List[Piece]]] = {}
     said = lines.said()
     while said is not None and said != "then":
-        found = re.fullmatch("file (%s)|(stdin|stdout|stderr)|(stdout|stderr) anything" % WORD, said)
+        found = re.fullmatch("(file|wrote) (%s)|(stdin|stdout|stderr)|(stdout|stderr) anything" % WORD, said)
         if not found:
             raise lines.fault("no part of a run: %s" % said)
-        file, stream = found[1] and lines.word(found[1]), found[2] or found[3]
-        if file in files or stream in streams or file is not None and re.fullmatch(r"\.{0,2}|.*[/\0].*", file, re.DOTALL):
+        file, stream = found[2] and lines.word(found[2]), found[3] or found[4]
+        there = file in (wrote if found[1] == "wrote" else files)
+        if there or stream in streams or file is not None and re.fullmatch(r"\.{0,2}|.*[/\0].*", file, re.DOTALL):
             raise lines.fault("a part that was there before, or no name of a file: %s" % said)
         lines.at += 1
         pieces = _pieces(lines, is_second and stream == "stdin")
-        if file is not None:
+        if file is not None and found[1] == "wrote":
+            wrote[file] = given(pieces)
+        elif file is not None:
             files[file] = pieces
-        elif found[3] and pieces:
+        elif found[4] and pieces:
             raise lines.fault("something stands above where anything may")
         else:
-            streams[stream] = None if found[3] else pieces
+            streams[stream] = None if found[4] else pieces
         said = lines.said()
-    return files, streams
+    return _Parts(files, wrote, streams)
 
 
 def _run(lines: _Lines, is_second: bool) -> Tuple[Run, bool]:
@@ -199,9 +211,9 @@ def _run(lines: _Lines, is_second: bool) -> Tuple[Run, bool]:
     words, keys = _head(lines)
     if ("save" in keys and not is_second) or ("heavy" in keys and is_second):
         raise lines.fault("`save` above this line is of a second run, and `heavy` of a first")
-    files, streams = _parts(lines, is_second)
+    files, wrote, streams = _parts(lines, is_second)
     out, err = (None if part is None else given(part) for part in (streams.get("stdout", []), streams.get("stderr", [])))
-    run = Run(words, files, streams.get("stdin") or [], out, err, int(keys["status"]), int(keys["room"]) if "room" in keys else None,
+    run = Run(words, files, streams.get("stdin") or [], out, err, wrote, int(keys["status"]), int(keys["room"]) if "room" in keys else None,
               "unreadable" in keys, "any_order" in keys, keys.get("save"))
     return run, "heavy" in keys
 

@@ -4,7 +4,7 @@ use Rattle.trace_lines.specs.Values.{TraceValue}
 use Rattle.audit.specs.Parts.{Told}
 use Rattle.audit.proofs.Answering.{told-map, told_no_memory}
 use Rattle.audit.proofs.KindLemmas.{handed_on}
-use Rattle.follow.specs.Handing.{IsCarryText, run_lines}
+use Rattle.follow.specs.Handing.{IsCarryText, run_lines, unaudited}
 use Rattle.follow.specs.declared.handing.RunEnd.{RunEnd}
 use Rattle.follow.proofs.handing.end_run.Goals as goal
 
@@ -17,13 +17,14 @@ returns-in_err-text g c = handed_on (Told _ _) _ c.from_residual-in_err-text.ens
 pub returns : goal.returns
 returns g c =
     let f = c.args.follower.now in
-    let one : c.trace.result.now ≡ c.args.log.log = c.trace.ensures ∙ c.pause-paused.ensures ∙ c.into_parts-before.ensures.log in
-    let two : c.trace-2.result.now ≡ c.args.log.log =
-    c.trace-2.ensures ∙ c.pause-paused.ensures ∙ c.into_parts-before.ensures.log in
+    let one : c.trace-trace.result.now ≡ c.args.log.log =
+    c.trace-trace.ensures ∙ c.pause-paused.ensures ∙ c.into_parts-before.ensures.log in
     told-map _ _ _ c.tell.result (λ text end says. record {
       lines = says.0 ∙ c.as_str.ensures.value ∙ c.in_ok-text.ensures
-          ∙ ap (λ (t : TraceValue). run_lines f.base c.args.begun t f.told.items) two;
-      verdict = ap (λ (e : RunEnd). e.verdict) says.1 ∙ c.verdict-verdict.ensures;
+          ∙ ap (λ (t : TraceValue). run_lines f.base c.args.begun t f.told.items) one;
+      verdict = ap (λ (e : RunEnd). e.verdict) says.1 ∙ c.verdict.ensures;
+      unaudited = ap (λ (e : RunEnd). e.unaudited) says.1 ∙ c.count_unaudited-unaudited.ensures
+          ∙ ap (λ (t : TraceValue). unaudited f.base c.args.begun t) one;
       carry = subst (λ o. IfSome o (λ s. IsCarryText c.args.log.log (string_bytes s))) (sym (ap (λ (e : RunEnd). e.carry) says.1))
           (subst (λ (t : TraceValue). IfSome c.in_ok-carry.carry (λ s. IsCarryText t (string_bytes s))) one c.in_ok-carry.ensures);
     }) c.tell.ensures

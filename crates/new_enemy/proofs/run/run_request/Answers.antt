@@ -20,4 +20,4 @@ returns-in-History-clause-says g c =
 
 pub returns-in-Follow-clause-says : goal.returns-in-Follow-clause-says
 returns-in-Follow-clause-says g c =
-    says_of_files _ (codes "follow") _ c.follow_path.result.status c.follow_path.result.read c.follow_path.ensures.runs
+    says_of_files _ (codes "follow") _ c.follow_paths.result.status c.follow_paths.result.read c.follow_paths.ensures.runs
