@@ -54,7 +54,7 @@ hands_on path end s (handed.Made made) (is, inl h) = inl (h.1, omega (arith, h.1
 hands_on path end s (handed.Made made) (is, inr h) = inr (inr (h.0, inr h.1))
 
 -- which file it went to
-handed_to : {F : Type 0} (path : Option (List ℕ)) (answer : Result RunEnd RunFault) (s : ℕ) (to : Handed F)
+pub handed_to : {F : Type 0} (path : Option (List ℕ)) (answer : Result RunEnd RunFault) (s : ℕ) (to : Handed F)
     → IsHandedOn path answer s to → IsHandedTo path s to
 handed_to (Some path) (Ok end) s handed.Nothing h = inr (omega (arith, h.1), omega (arith, h.1))
 handed_to (Some path) (Ok end) s handed.NotMade h = h
@@ -143,7 +143,7 @@ module _ {F : Type 0} (from : Option (Opened F)) (x : Opened F) (out : Writing) 
 
     run_ended : (path : Option (List ℕ)) → IsHandedOn path (Ok end) s to → RunsFiles (codes "follow") out s (ran.WentOn x from to)
     run_ended None h = ended_well (subst (IsHanded end) (sym h.0) tt) (ap failures_to h.0) h.1
-    run_ended (Some path) h = elim hands_on path end s to h [
+    run_ended (Some path) h = elim (hands_on path end s to h) [
       | inl well ↦ ended_well well.0 well.1 well.2
       | inr badly ↦ ended_badly badly
     ]
@@ -162,7 +162,7 @@ module _ {F : Type 0} (from : Option (Opened F)) (x : Opened F) (out : Writing) 
     left_out = λ six. absurd (omega (arith, six, five));
     devices = record {
       flushed = λ one not. absurd (true≢false not);
-      device = λ is _. elim failed is [
+      device = λ is _. elim (failed is) [
         | inl file ↦ inl (omega (arith, file))
         | inr writer ↦ inr writer
       ];
@@ -189,7 +189,9 @@ refusal_handed (Some p) f s to h = h
 -- a call without limits answers none
 no_limits : (e : AuditFault) (s : ℕ) → IsStatus e s → IsOneOf (kind.trace ∷ kind.write ∷ kind.memory ∷ []) e → s ≢ 3
 no_limits e s is of = λ three.
-    never_answered (kind.trace ∷ kind.write ∷ kind.memory ∷ []) e faults.Limits refl of (three_is_limits e s is three)
+    let same : ◌≡◌ {A = Result RunEnd AuditFault} (Err e) (Err faults.Limits) =
+    ap (λ (y : AuditFault). Err y) (three_is_limits e s is three) in
+    never_answered (kind.trace ∷ kind.write ∷ kind.memory ∷ []) e faults.Limits refl of same
 
 module _ {F : Type 0} (left : Counted F → Option (List ℕ)) (a0 : Counted F) (x : Opened F) (unused : IsUnused a0) where
   -- what a run refuses of its lines
@@ -209,7 +211,8 @@ module _ {F : Type 0} (left : Counted F → Option (List ℕ)) (a0 : Counted F) 
     abbrev trace : Reading
     trace = reads moved_by stops_of failures_of left a0 (file_of x)
 
-    of_trace : (e : AuditFault) → (f : TraceFault) → e ≡ faults.Trace f → Err {T = RunEnd} e ≡ Err (faults.Trace f)
+    of_trace : (e : AuditFault) → (f : TraceFault) → e ≡ faults.Trace f
+        → ◌≡◌ {A = Result RunEnd AuditFault} (Err e) (Err (faults.Trace f))
     of_trace e f is = ap (λ (y : AuditFault). Err y) is
 
     -- of the first run of a log
@@ -253,7 +256,7 @@ module _ {F : Type 0} (left : Counted F → Option (List ℕ)) (a0 : Counted F) 
             let run = all.1.3 in
             let told = whole a0 (file_of x) (λ a. RunEnds all.1.0 all.1.1 a out.before.taken out.after.taken end) unused run.follows in
             run_ended (Some y) x out s to (few run.most) run.held end
-            (all.0, told.0, all.1.0, all.1.1, all.1.2, told.1) (omega (arith, run.kept.0, unused.2, unread)) run.kept.1 path hands
+            (all.0, told.0, (all.1.0, all.1.1, all.1.2, told.1)) (omega (arith, run.kept.0, unused.2, unread)) run.kept.1 path hands
 
         stopped_behind : (e : AuditFault) → given.OfWhole moved_by stops_of b0 (file_of y) (RunOf (Err e))
             → IsOneOf (kind.trace ∷ kind.write ∷ kind.memory ∷ []) e → failures_of (file_of y) ≡ 0

@@ -1,5 +1,6 @@
 -- What the program answers of a run that begins with a carry, or hands one on.
-use Rattle.std.specs.Prelude.{◌≡◌, ◌⊎◌, ◌==◌, ℕ, ◌+◌, ◌<◌, ◌≤◌, List, Option, Some, None, Result, Ok, Err, String, Global, string_bytes, if◌then◌else◌, ⊤}
+use Rattle.std.specs.Prelude.{◌≡◌, ◌⊎◌, ◌==◌, ℕ, ◌+◌, ◌<◌, ◌≤◌, List, Option, Some, None, Result, Ok, Err, String, string_bytes, if◌then◌else◌, ⊤}
+use Rattle.std.specs.declared.alloc.Global.{Global}
 use Rattle.devices.specs.Devices.{moved_by, failures_of, stops_of}
 use Rattle.devices.specs.declared.counted.Counted.{Counted}
 use Rattle.audit.specs.declared.plain.Verdict.{Verdict}
