@@ -38,7 +38,7 @@ Places = dict[tuple[int, str], int]
 
 def places_in(groups: list[Group]) -> Places:
     """Of each finding the number of its group, from 1."""
-    return {(one.finding.line, one.finding.finding): number for number, group in enumerate(groups, 1) for one in group.told}
+    return {(one.finding.line, one.finding.finding): number for number, group in enumerate(groups, 1) for one in group.findings}
 
 
 def row_of(telling: Telling, told: RatedFinding) -> Row:

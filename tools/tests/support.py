@@ -104,6 +104,16 @@ class Case(unittest.TestCase):
         self.assertEqual(status, 6 if "\nchecks: " in "\n" + said else 0, said)
         return said
 
+    def report(self, *lines, **more):
+        """The report on a log of some lines, by the words of the test's class; what its import said is kept."""
+        self.said = self.imported(*self.words(*lines, **more))
+        return self.audited()
+
+    def forget(self):
+        """Takes away what an import left, so that the next one begins anew."""
+        for name in "trace.jsonl", "ids.jsonl":
+            os.remove(self.path(name))
+
     def unaudited(self, *words):
         """Of an import that has to work the lines on checks that are not audited whole, with the first of each cause that is not at all."""
         said = self.imported(*words).splitlines()

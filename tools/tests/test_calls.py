@@ -1,6 +1,5 @@
 """What services and their tools print: calls that answer many questions, store files, and lines of other tools."""
 import json
-import os
 
 from new_enemy_tools.importing import causes
 from new_enemy_tools.importing.located import Malformed
@@ -18,10 +17,6 @@ def key(user, thing="doc:1", relation="viewer"):
 
 
 class CallsCase(Case):
-    def forget(self):
-        for name in "trace.jsonl", "ids.jsonl":
-            os.remove(self.path(name))
-
     def goals(self):
         """The goals of the trace with their replies, by the names of the table."""
         users = [row["id"] for row in self.rows("ids.jsonl")]

@@ -10,14 +10,14 @@ from new_enemy_tools.findings import FORMS
 from new_enemy_tools.parting.blocks import Blocks
 from new_enemy_tools.trace_lines import OtherForm
 from new_enemy_tools.windowing import window_effects
+from new_enemy_tools.windowing.audited_window import NOTHING, Refused, audited, audited_so_far
 from new_enemy_tools.windowing.auditing import How
 from new_enemy_tools.windowing.carrying import Keep
-from new_enemy_tools.windowing.faults import WindowFault
 from new_enemy_tools.windowing.following import Following
-from new_enemy_tools.windowing.window_bytes import Own
-from new_enemy_tools.windowing.audited_window import NOTHING, Refused, audited, audited_so_far
 from new_enemy_tools.windowing.scanning import scan, scan_checks
 from new_enemy_tools.windowing.state import State
+from new_enemy_tools.windowing.window_bytes import Own
+from new_enemy_tools.windowing.window_faults import WindowFault
 from tests.random_traces import PlainIds, RandomInput
 from tests.random_windows import RandomHistory, cut_at_commits
 from tests.test_windows import WindowCase

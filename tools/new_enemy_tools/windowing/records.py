@@ -34,7 +34,7 @@ class Records:
         self.numbers = numbers
         self.first = [row for row in rows if row.kind == "e"]
         self.held = held
-        self.kept = {row.line: row.raw for row in self.first if row.line in held}
+        self.held_records = {row.line: row.raw for row in self.first if row.line in held}
 
     def lines(self, file: BinaryIO) -> Iterator[bytes]:
         """The records by the lines of the window; first those that were kept."""
@@ -51,7 +51,7 @@ class Records:
         if line is None:
             return raw
         if line in self.held:
-            self.kept[line] = raw
+            self.held_records[line] = raw
         within = self.numbers.within(line)
         # What names another window's line is as stray as what names none.
         return _renamed(raw, line, limits.NUMBER if within is None else within)

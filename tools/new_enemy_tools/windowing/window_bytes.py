@@ -9,10 +9,10 @@ from new_enemy_tools.parting.blocks import Blocks
 from new_enemy_tools.parting.sharing import shared
 from new_enemy_tools.pieces import START
 from new_enemy_tools.windowing.carrying import Window
-from new_enemy_tools.windowing.faults import WindowFault
 from new_enemy_tools.windowing.logsum import LogSum
 from new_enemy_tools.windowing.scanning import Scanned, scan
 from new_enemy_tools.windowing.state import Row, State
+from new_enemy_tools.windowing.window_faults import WindowFault
 
 PIECE = 1 << 20
 
