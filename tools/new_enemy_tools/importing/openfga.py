@@ -21,7 +21,7 @@ from new_enemy_tools.importing.service import (Answer, Log, Looked, ServiceRules
                                                text_or_none, tuplesets_of)
 from new_enemy_tools.importing.shapes import (ID, LABEL, NULL, PART, REPLY, REST, STAMP, TEXT, TIME, USER_RELATION, WHOLE, Field, Form, Said, field,
                                               form, needed)
-from new_enemy_tools.importing.simple_yaml import beside, is_yaml, read_yaml
+from new_enemy_tools.importing.yaml_files import beside, is_yaml, read_yaml
 from new_enemy_tools.importing.spool import CALL, Lines
 from new_enemy_tools.importing.times import nanoseconds
 from new_enemy_tools.importing.write_calls import unshown, without_calls
