@@ -1,4 +1,4 @@
-"""Garbage collection, which is held off while much is made that makes no circles: looking through that takes up to half of the time."""
+"""Garbage collection, held off while much is made that makes no circles: looking through it takes up to half of the time."""
 import gc
 from contextlib import contextmanager
 from typing import Iterator

@@ -1,4 +1,4 @@
-"""Store files and validation files, which are YAML, as PyYAML reads it, with the line of each value. All plain values are texts.
+"""Store files and validation files, which are YAML, as PyYAML reads it, with the line of each value; all are texts.
 
 Refused by line are anchors, aliases, tags, several documents, and what is nested deeper than a line of a log may be.
 """
@@ -99,7 +99,8 @@ def _events(text: str) -> Iterator[Any]:
         mark = fault.problem_mark or fault.context_mark
         raise _fault(mark.line + 1 if mark else 1, fault.problem or str(fault)) from None
     except yaml.YAMLError as fault:
-        raise _fault(text.count("\n", 0, getattr(fault, "position", None) or 0) + 1, getattr(fault, "reason", str(fault))) from None
+        line = text.count("\n", 0, getattr(fault, "position", None) or 0) + 1
+        raise _fault(line, getattr(fault, "reason", str(fault))) from None
 
 
 def is_yaml(path: str) -> bool:
