@@ -208,12 +208,13 @@ class UnderWay(Generic[Asked]):
         self.answered[found] = None
         if len(self.answered) > ANSWERED:
             del self.answered[next(iter(self.answered))]
-        if not is_stream:
-            self.waiting.pop(found, None)
+        if not is_stream and found in self.waiting:
+            del self.waiting[found]
 
     def end(self, found: str) -> None:
         """Notes that a call that was answered ended well."""
-        self.waiting.pop(found, None)
+        if found in self.waiting:
+            del self.waiting[found]
         self.answered.pop(found, None)
 
 

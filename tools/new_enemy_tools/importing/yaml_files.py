@@ -9,7 +9,7 @@ from new_enemy_tools import limits
 from new_enemy_tools.importing.located import List, Malformed, Object, read_text
 
 try:
-    import yaml
+    import yaml  # type: ignore[import]
 except ImportError:
     yaml = None  # type: ignore[assignment]
 
