@@ -1,5 +1,4 @@
 """Evidence for a window: records that name lines of the log, and those of entries that were held over."""
-import json
 from typing import BinaryIO, Iterator, Optional
 
 from new_enemy_tools import limits, strictjson
@@ -16,7 +15,7 @@ def _renamed(raw: bytes, line: int, given: int) -> bytes:
     start = RECORD_START + b"%d," % line
     if raw.startswith(start) and raw.count(b'"line"') == 1 and b"\\" not in raw:
         return RECORD_START + b"%d," % given + raw[len(start):]
-    return json.dumps({**strictjson.object_of(raw), "line": given}, ensure_ascii=False, separators=(",", ":")).encode()
+    return strictjson.encode({**strictjson.object_of(raw), "line": given}).encode()
 
 
 def _line_named(raw: bytes) -> Optional[int]:
