@@ -72,6 +72,13 @@ class Case(unittest.TestCase):
     def rows(self, name):
         return [json.loads(line) for line in self.get(name).splitlines()]
 
+    def assert_alike(self, one, two):
+        """Two folders of the same files."""
+        self.assertEqual(sorted(os.listdir(one)), sorted(os.listdir(two)))
+        for name in os.listdir(one):
+            with open(os.path.join(one, name), "rb") as left, open(os.path.join(two, name), "rb") as right:
+                self.assertEqual(left.read(), right.read(), name)
+
     def run_process(self, command, *words, stdin=""):
         return subprocess.run([sys.executable, NE, command, *words], cwd=self.room, input=stdin, capture_output=True, text=True, timeout=300)
 
