@@ -90,8 +90,8 @@ class Followed(WindowCase):
                 self.put("window", data)
                 parts = random.choice([1, 1, 3])
                 wanted, found = self.audited(old, parts), self.followed(random, old, data, parts)
-                self.assertEqual((found.told, found.carry, found.carried), (wanted.told, wanted.carry, wanted.carried))
-                statuses.add(found.told.status())
+                self.assertEqual((found.report, found.carry, found.carried), (wanted.report, wanted.carry, wanted.carried))
+                statuses.add(found.report.status())
                 quick += self.compare_effects(found, Own(self.path("window"), old, False))
                 old = State(found.carry.head, found.carry.rows, "0")
         self.assertEqual(statuses, {0, 1})
@@ -127,7 +127,7 @@ class Followed(WindowCase):
         following = Following(NOTHING, self.how())
         following.take(data, None)
         found = self.audited(NOTHING, 2, following)
-        self.assertEqual(found.told, self.audited(NOTHING).told)
+        self.assertEqual(found.report, self.audited(NOTHING).report)
 
     def test_a_program_that_does_not_read(self):
         data = b'{"kind":"namespace","name":"doc","relations":[{"name":"viewer"}]}\n' * 20_000

@@ -218,10 +218,10 @@ def kept(days: Days, given: Namespace, own: Own, found: Audited, ids: Optional[I
         # Days without pages need not wait until this is loaded.
         from new_enemy_tools.windowing.day_pages import write_day
         write_day(found, own, ids, 1 + (days.last or 0), days.work(PAGE))
-    told = found.told
+    report = found.report
     write_whole(days.work("summary.json"), [json.dumps(Summary(
-        given.names, digest, told.status(given.allow_unaudited), told.entries, len(told.findings),
-        sum(told.coverage.not_audited.values()), told.held, told.verdict, told.coverage.row(), labels._asdict(), given.held_back)._asdict())])
+        given.names, digest, report.status(given.allow_unaudited), report.entries, len(report.findings),
+        sum(report.coverage.not_audited.values()), report.held, report.verdict, report.coverage.row(), labels._asdict(), given.held_back)._asdict())])
     if given.keep_days:
         keep_trace(days.work(), found, own)
     if os.path.exists(days.work("trace")):
@@ -239,10 +239,10 @@ def write_reports(days: Days, found: Audited, own: Own, ids: Optional[Ids], labe
     """The report as text, and with effects as rows of JSON; and what is written out, with what the days before say of their checks. `said` is
     what is told of what waits."""
     texts, where = texts_of(found, own, ids), places(found, own).__getitem__
-    write_whole(days.work("report.txt"), found.told.lines(where, beside=said))
+    write_whole(days.work("report.txt"), found.report.lines(where, beside=said))
     write_whole(days.work("report.jsonl"), texts.rows)
     before = [(number, days.summary(number).looked) for number in days.numbers[:-COMPARED - 1:-1]]
-    write_whole(days.work(MAIL), found.told.lines(where, texts.groups, [*said, *compared(labels, before)]))
+    write_whole(days.work(MAIL), found.report.lines(where, texts.groups, [*said, *compared(labels, before)]))
 
 
 def cannot_show(said: list[str], is_first: bool) -> list[str]:

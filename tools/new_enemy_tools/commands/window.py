@@ -93,13 +93,13 @@ def audit_command(given: Namespace, progress: Progress) -> int:
     if given.out is not None:
         write_next(given.out, found.window, found.carry)
     progress.end()
-    write(found.told.lines(places(found, own).__getitem__) if given.where else found.told.lines())
-    return found.told.status(given.allow_unaudited)
+    write(found.report.lines(places(found, own).__getitem__) if given.where else found.report.lines())
+    return found.report.status(given.allow_unaudited)
 
 
 def places(found: Audited, own: Own) -> dict[int, str]:
     """What is told of where each line that is told comes from."""
-    lines = {one.line for one in found.told.findings} | {*found.told.not_audited, *found.told.in_part}
+    lines = {one.line for one in found.report.findings} | {*found.report.not_audited, *found.report.in_part}
     raws = lines_of(own, found.window.old, lines)
     said = {line: strictjson.object_of(raw).get("from") for line, raw in raws.items()}
     return {line: " (%s)" % plain(source) if isinstance(source, str) else "" for line, source in said.items()}

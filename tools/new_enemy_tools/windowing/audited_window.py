@@ -39,7 +39,7 @@ class OwnCounts(NamedTuple):
 
 
 class Audited(NamedTuple):
-    told: WindowReport
+    report: WindowReport
     window: Window
     carry: Carry
     carried: list[Row]
@@ -61,7 +61,7 @@ class Audited(NamedTuple):
         found = coverage_of(lines, marks if said is None else [said], is_ours and lines.checks > 0 and not own.start)
         waiting = [lines_in(b"\n".join([row.raw for row in rows if row.kind == "h"])) for rows in (self.carried, self.carry.rows)]
         lines = lines.plus(waiting[0]).plus(waiting[1], -1)
-        return self._replace(told=self.told.covered(found._replace(checks=lines.checks, in_part=dict(lines.in_part))))
+        return self._replace(report=self.report.covered(found._replace(checks=lines.checks, in_part=dict(lines.in_part))))
 
 
 def state_before(path: Optional[str]) -> State:
