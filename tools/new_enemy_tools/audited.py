@@ -10,7 +10,7 @@ from operator import eq, itemgetter, lt
 from typing import Iterable, Optional
 
 from new_enemy_tools.entries import Commit, LateEntries
-from new_enemy_tools.sight import Look, Sight
+from new_enemy_tools.quick_reach import Look, Sight
 from new_enemy_tools.store import Store, Touched
 from new_enemy_tools.texts import Tuple, Userset
 from new_enemy_tools.trace import Refusal, Trace

@@ -8,8 +8,8 @@ from typing import Optional
 from new_enemy_tools.effects import Change, Effect, Effects
 from new_enemy_tools.entries import Commit, Entry
 from new_enemy_tools.meaning import Outgrown
+from new_enemy_tools.quick_reach import Look
 from new_enemy_tools.reach import Reach, commit_at
-from new_enemy_tools.sight import Look
 from new_enemy_tools.texts import Tuple
 from new_enemy_tools.token_order import Window, ignored
 from new_enemy_tools.trace import Trace

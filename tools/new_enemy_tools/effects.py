@@ -12,8 +12,8 @@ from typing import Iterable, NamedTuple, Optional
 from new_enemy_tools.entries import Entry
 from new_enemy_tools.findings import Finding
 from new_enemy_tools.meaning import Outgrown, Settled
+from new_enemy_tools.quick_reach import UNTOUCHED, Look
 from new_enemy_tools.reach import Reach
-from new_enemy_tools.sight import UNTOUCHED, Look
 from new_enemy_tools.texts import Tuple
 from new_enemy_tools.token_order import Window, ignored
 from new_enemy_tools.trace import Trace

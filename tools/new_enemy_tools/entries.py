@@ -74,7 +74,7 @@ class Commits(Sequence[Commit]):
             kept = self._kept[place] = self._read(self.lines[place], kept)
         return kept
 
-    def kept(self, place: int) -> Union[Commit, bytes]:
+    def commit_or_line(self, place: int) -> Union[Commit, bytes]:
         """A commit, or its line as bytes where it was not read in full yet."""
         return self._kept[place]
 

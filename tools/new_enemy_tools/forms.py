@@ -1,9 +1,8 @@
 """The forms that a report is given in for machines, and as text."""
-import json
 import re
 from typing import Callable, Iterator, NamedTuple, Optional
 
-from new_enemy_tools import texts
+from new_enemy_tools import strictjson, texts
 from new_enemy_tools.baseline import asked_of, key_of, key_with
 from new_enemy_tools.effects import MEANT, RatedFinding
 from new_enemy_tools.entries import Entry
@@ -38,7 +37,7 @@ Places = dict[tuple[int, str], int]
 
 def places_in(groups: list[Group]) -> Places:
     """Of each finding the number of its group, from 1."""
-    return {(one.finding.line, one.finding.finding): number for number, group in enumerate(groups, 1) for one in group.told}
+    return {(one.finding.line, one.finding.finding): number for number, group in enumerate(groups, 1) for one in group.findings}
 
 
 def row_of(telling: Telling, told: RatedFinding) -> Row:
@@ -76,17 +75,14 @@ def sums_row(telling: Telling) -> Row:
                      **telling.labels._asdict(), "note": telling.labels.note, "coverage": {"state": telling.coverage.state, **telling.coverage.row()}})
 
 
-_encoded = json.JSONEncoder(ensure_ascii=False, separators=(",", ":")).encode
-
-
-def _json(value: object) -> str:
+def json_of(value: object) -> str:
     """A letter that is not seen is there by its number, which in JSON is the same letter."""
-    return plain(_encoded(value))
+    return plain(strictjson.encode(value))
 
 
 def json_lines(telling: Telling) -> Iterator[str]:
     """Each row is that of `keyed_row_of`, put together from what findings and entries have in common."""
-    yield _json(sums_row(telling))
+    yield json_of(sums_row(telling))
     rows = RowTexts(telling)
     for told in telling.told:
         yield rows.of(told)
@@ -129,27 +125,27 @@ class RowTexts:
         change = told.change
         if change is None:
             return ""
-        since = "" if change.time is None else ',"ignored_since":%s' % _json(change.time)
+        since = "" if change.time is None else ',"ignored_since":%s' % json_of(change.time)
         return ',"ignored_at":%d%s%s' % (change.at, since, ',"new_enemy":true' if told.is_new_enemy else "")
 
     @staticmethod
     def _head(told: RatedFinding) -> str:
-        return _json(_present({"finding": told.finding.finding, "text": told.finding.text, "effect": told.effect.word,
+        return json_of(_present({"finding": told.finding.finding, "text": told.finding.text, "effect": told.effect.word,
                                "severity": told.effect.severity, "outcome": told.outcome}))[1:-1]
 
     def _texts(self, entry: Entry) -> EntryTexts:
         names = self.telling.names
         first = '"kind":"%s","goal":%s,%s"snapshot":%d,"reply":%s' % (
-            entry.kind, _json(str(entry.goal)), '"named":%s,' % _json(names.tuple(entry.goal)) if names.ids else "", entry.snapshot,
+            entry.kind, json_of(str(entry.goal)), '"named":%s,' % json_of(names.tuple(entry.goal)) if names.ids else "", entry.snapshot,
             "true" if entry.reply else "false")
         if entry.zookie is not None:
             first += ',"zookie":"%s","zookie_at":%d' % (entry.zookie, texts.parse_zookie(entry.zookie)[0])
         if entry.version is not None:
-            first += ',"version":' + _json(entry.version)
+            first += ',"version":' + json_of(entry.version)
         if entry.source is None and entry.revision is None and entry.time is None:
             return EntryTexts(first, "", asked_of(entry, names))
         log = logged(entry.source)
-        last = _json(_present({"from": entry.source, "file": log and log.file, "file_line": log and log.line, "revision": entry.revision,
+        last = json_of(_present({"from": entry.source, "file": log and log.file, "file_line": log and log.line, "revision": entry.revision,
                                "time": entry.time}))
         return EntryTexts(first, "," + last[1:-1], asked_of(entry, names))
 

@@ -56,23 +56,23 @@ class Sums(NamedTuple):
 class Group(NamedTuple):
     """Findings of one kind of wrong, the worst first; how many requests have them, and when the first and the last was asked."""
 
-    told: list[RatedFinding]
+    findings: list[RatedFinding]
     requests: int
     since: Optional[str]
     until: Optional[str]
 
     @property
     def worst(self) -> RatedFinding:
-        return self.told[0]
+        return self.findings[0]
 
     @property
     def is_new_enemy(self) -> bool:
-        return any(one.is_new_enemy for one in self.told)
+        return any(one.is_new_enemy for one in self.findings)
 
     @property
     def others(self) -> list[str]:
         """The kinds of its findings beside that of the worst."""
-        kinds = dict.fromkeys("%s %s" % (one.finding.finding, one.finding.text) for one in self.told)
+        kinds = dict.fromkeys("%s %s" % (one.finding.finding, one.finding.text) for one in self.findings)
         return list(kinds)[1:]
 
     @property
@@ -87,12 +87,12 @@ class Group(NamedTuple):
 class Replies:
     """The findings of an audit by their requests."""
 
-    def __init__(self, told: list[RatedFinding]):
-        self.told = told
-        self._again = {one.reply for one in told if one.entry.again}
+    def __init__(self, findings: list[RatedFinding]):
+        self.findings = findings
+        self._again = {one.reply for one in findings if one.entry.again}
         # of each request its worst finding
         self._worst: dict[Key, RatedFinding] = {}
-        for one in told:
+        for one in findings:
             request = self._request(one)
             known = self._worst.get(request)
             if known is None or RANKS[one.effect.word] < RANKS[known.effect.word]:
@@ -110,7 +110,7 @@ class Replies:
     def groups(self) -> list[Group]:
         """New enemies first, then the worst."""
         found: dict[Key, list[RatedFinding]] = {}
-        for one in self.told:
+        for one in self.findings:
             found.setdefault(self._key(one), []).append(one)
         groups = [self._group(told) for told in found.values()]
         return sorted(groups, key=lambda group: (not group.is_new_enemy, RANKS[group.worst.effect.word]))
@@ -124,7 +124,7 @@ class Replies:
     def sums(self) -> Sums:
         worst = list(self._worst.values())
         distinct = {self._key(one): one for one in worst}
-        enemies = {self._key(one) for one in self.told if one.is_new_enemy}
+        enemies = {self._key(one) for one in self.findings if one.is_new_enemy}
         return Sums(_counts(worst), _counts(distinct.values()), len(enemies))
 
 
@@ -140,4 +140,4 @@ def listed(groups: list[Group]) -> Iterator[RatedFinding]:
     """The worst finding of each group, and behind these all others."""
     yield from (group.worst for group in groups)
     for group in groups:
-        yield from group.told[1:]
+        yield from group.findings[1:]

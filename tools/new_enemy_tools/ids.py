@@ -120,7 +120,7 @@ class Ids:
         self.rows: list[tuple[str, str, str]] = []
         # by kinds and types, and then by ids
         self.numbers: dict[tuple[str, str], dict[str, int]] = {}
-        self.kept = 0
+        self.saved = 0
         # whether all is numbered: each process that makes lines of a trace has the table for itself
         self.is_closed = False
         self.service: Optional[str] = None
@@ -133,7 +133,7 @@ class Ids:
             if not self._reads_quickly(file.read()):
                 file.seek(0)
                 self._read_in_full(path, file)
-        self.kept = len(self.rows)
+        self.saved = len(self.rows)
 
     def _reads_quickly(self, data: bytes) -> bool:
         """Takes rows as they are written here; False where one has another form, or may be at fault."""
@@ -178,10 +178,10 @@ class Ids:
 
     def forget(self) -> None:
         """Takes the rows back that are not in the file."""
-        for kind, of, id_text in self.rows[self.kept:]:
+        for kind, of, id_text in self.rows[self.saved:]:
             del self.numbers[kind, of][id_text]
         self.numbers = {key: table for key, table in self.numbers.items() if table}
-        del self.rows[self.kept:]
+        del self.rows[self.saved:]
         self._names.clear()
 
     def mark(self) -> dict[str, object]:
@@ -258,13 +258,13 @@ class Ids:
 
     def append(self) -> None:
         """Writes the new rows behind those of the file."""
-        if self.path and len(self.rows) > self.kept:
+        if self.path and len(self.rows) > self.saved:
             with open(self.path, "ab") as file:
-                for at in range(self.kept, len(self.rows), AT_ONCE):
+                for at in range(self.saved, len(self.rows), AT_ONCE):
                     rows = [(*row, number) for number, row in enumerate(self.rows[at:at + AT_ONCE], at + 1)]
                     said = {} if at or self.service is None else {SERVICE: self.service}
                     file.write(_row_lines(rows[:1] if said else [], said) + _row_lines(rows[1:] if said else rows, {}))
-            self.kept = len(self.rows)
+            self.saved = len(self.rows)
 
     def _of(self, number: int, kind: str) -> Optional[tuple[str, str, str]]:
         row = self.rows[number - 1] if 1 <= number <= len(self.rows) else None

@@ -2,9 +2,9 @@
 
 Tests compare it with the evidence that the program's own `make` finds.
 """
-import json
 from typing import Union
 
+from new_enemy_tools import strictjson
 from new_enemy_tools.entries import Entry
 from new_enemy_tools.meaning import Settled, Step
 from new_enemy_tools.texts import Tuple
@@ -18,4 +18,4 @@ def record(trace: Trace, entry: Entry) -> str:
     for step in settled.steps or [Step(False, [entry.goal.set])]:
         facts = [str(Tuple(of, entry.goal.user)) for of in step.sets]
         listed.append({"yes": facts[0]} if step.yes else {"no": facts})
-    return json.dumps({"line": entry.line, "steps": listed}, ensure_ascii=False, separators=(",", ":"))
+    return strictjson.encode({"line": entry.line, "steps": listed})

@@ -32,7 +32,7 @@ class Page(NamedTuple):
     """Its number, from 1, the findings that it shows, and the groups whose worst is among these."""
 
     number: int
-    told: list[RatedFinding]
+    findings: list[RatedFinding]
     groups: list[Group]
 
 
@@ -91,7 +91,7 @@ class Writer:
         self.teller = Teller(telling.trace, telling.names)
         # of each finding that mattered the page with the story of its group, and the finding that this is of
         self._stories_of = {told.finding: (number // PAGE + 1, group.worst.finding) for number, group in enumerate(telling.groups)
-                            if group.worst.outcome is not None for told in group.told}
+                            if group.worst.outcome is not None for told in group.findings}
         self.style, self.script = asset("page.css"), asset("page.js")
 
     def lines(self, page: Page) -> Iterator[str]:
@@ -99,12 +99,12 @@ class Writer:
         yield "<body>"
         yield '<a class="skip" href="#all">To the table of all findings</a>'
         yield from self._sums(page)
-        if page.told:
+        if page.findings:
             yield from self._filters(page)
             yield from self._stories(page)
             yield from self._table(page)
         yield from self._links(page)
-        yield "<script>%s</script>" % self.script if page.told else ""
+        yield "<script>%s</script>" % self.script if page.findings else ""
         yield "</body></html>"
 
     def _head(self, page: Page) -> Iterator[str]:
@@ -142,7 +142,7 @@ class Writer:
         if len(self.pages) > 1:
             yield '<p class="soft">Page %d of %d: findings %s to %s of %s, the worst first.</p>' % (
                 page.number, len(self.pages), format((page.number - 1) * PAGE + 1, ","),
-                format((page.number - 1) * PAGE + len(page.told), ","), format(len(self.telling.told), ","))
+                format((page.number - 1) * PAGE + len(page.findings), ","), format(len(self.telling.told), ","))
         yield "</header>"
 
     def _about(self) -> Iterator[str]:
@@ -156,8 +156,8 @@ class Writer:
             yield '<p id="about">%s.</p>' % (text[0].upper() + text[1:])
 
     def _filters(self, page: Page) -> Iterator[str]:
-        words = {told.finding.finding: FORMS[told.finding.finding][0] for told in page.told}
-        namespaces = sorted({self.telling.names.question(told.entry.goal).namespace for told in page.told})
+        words = {told.finding.finding: FORMS[told.finding.finding][0] for told in page.findings}
+        namespaces = sorted({self.telling.names.question(told.entry.goal).namespace for told in page.findings})
         choices = (("effect", "Effect", [(one, one) for one in EFFECTS]),
                    ("finding", "Finding", [(one, "%s %s" % (one, words[one])) for one in FORMS if one in words]),
                    ("kind", "Kind", [("check", "check"), ("content", "content check")]),
@@ -231,7 +231,7 @@ class Writer:
         yield '<h2 id="all">All findings</h2><p class="soft">%s.</p>' % markup("; ".join("%s: %s" % one for one in MEANT.items()))
         yield '<div class="scroll" tabindex="0" role="region" aria-labelledby="all"><table>'
         yield "<thead><tr>%s</tr></thead><tbody>" % "".join('<th scope="col">%s</th>' % column for column in COLUMNS)
-        for told in page.told:
+        for told in page.findings:
             yield self._row(told, page)
         yield "</tbody></table></div>"
 
@@ -287,7 +287,7 @@ def write_pages(telling: Telling, path: str, step: Callable[[int], None]) -> Non
             with open(place + ".part", "w", encoding="utf-8", newline="\n") as file:
                 for line in writer.lines(page):
                     file.write(line + "\n")
-            done += len(page.told)
+            done += len(page.findings)
             step(done)
         for _, place in places:
             os.replace(place + ".part", place)

@@ -11,8 +11,8 @@ from types import TracebackType
 from typing import TYPE_CHECKING, BinaryIO, Callable, NamedTuple, Optional
 
 from new_enemy_tools.faults import ToolFault
-from new_enemy_tools.parting.faults import PartsFault
 from new_enemy_tools.parting.manifest import MOST_PARTS
+from new_enemy_tools.parting.part_faults import PartsFault
 
 if TYPE_CHECKING:
     from hashlib import blake2b

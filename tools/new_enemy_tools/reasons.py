@@ -44,7 +44,7 @@ class Reasons:
         self.known, self.goal = known, goal
         self.rank = {node: place for place, node in enumerate(known.known)}
         self.left, self.most = usersets, grounds
-        self.told: set[Userset] = set()
+        self.explained: set[Userset] = set()
 
     def of_goal(self) -> Reason:
         return self._reason(self.goal)
@@ -54,10 +54,10 @@ class Reasons:
         rewrite = self.known.rules.rewrite_at(node.namespace, node.relation, self.known.at)
         if rewrite is None:
             return Reason(node, False, [])
-        if node in self.told or not self.left:
-            return Reason(node, holds, [], cut="above" if node in self.told else "long")
+        if node in self.explained or not self.left:
+            return Reason(node, holds, [], cut="above" if node in self.explained else "long")
         self.left -= 1
-        self.told.add(node)
+        self.explained.add(node)
         grounds = self._grounds(node, rewrite, holds) or []
         shown = [one if one.to is None else one._replace(why=self._reason(one.to)) for one in grounds[:self.most]]
         return Reason(node, holds, shown, len(grounds) - len(shown))

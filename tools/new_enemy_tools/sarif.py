@@ -1,14 +1,12 @@
 """A report as SARIF 2.1.0, a result on each line of the text."""
-import json
 from typing import Iterator, Optional
 from urllib.parse import quote
 
 from new_enemy_tools.baseline import FINGERPRINT
 from new_enemy_tools.effects import RatedFinding
 from new_enemy_tools.findings import FORMS
-from new_enemy_tools.forms import Place, Places, keyed_row_of, logged, place_of, places_in, sentence, sums_row
+from new_enemy_tools.forms import Place, Places, json_of, keyed_row_of, logged, place_of, places_in, sentence, sums_row
 from new_enemy_tools.ignoring import Row as Ignored
-from new_enemy_tools.shown import plain
 from new_enemy_tools.telling import Telling
 
 SCHEMA = "https://json.schemastore.org/sarif-2.1.0.json"
@@ -24,10 +22,6 @@ ABOUT = {
     "F9": "The evidence for a reply does not settle it.",
     "F10": "A reply is not what the rules mean over the tuples committed up to its snapshot."}
 NUMBERS = {finding: number for number, finding in enumerate(FORMS)}
-
-
-def _json(value: object) -> str:
-    return plain(json.dumps(value, ensure_ascii=False, separators=(",", ":")))
 
 
 def _uri(path: str) -> str:
@@ -70,14 +64,14 @@ def _rules() -> list[dict[str, object]]:
 def sarif(telling: Telling) -> Iterator[str]:
     """What is ignored stands there as suppressed; what is known from a baseline does not."""
     driver = {"name": "new_enemy", "rules": _rules()}
-    yield '{"$schema":%s,"version":"2.1.0","runs":[{"tool":{"driver":%s},' % (_json(SCHEMA), _json(driver))
+    yield '{"$schema":%s,"version":"2.1.0","runs":[{"tool":{"driver":%s},' % (json_of(SCHEMA), json_of(driver))
     level = "note" if telling.coverage.is_whole else "warning"
     notes = [{"level": level if number else "note", "message": {"text": said}} for number, said in enumerate([telling.said, *telling.notes])]
     yield '"invocations":[{"executionSuccessful":true,"toolExecutionNotifications":%s%s}],' % (
-        _json(notes), ',"properties":%s' % _json({"coverage": telling.coverage.row()}))
-    yield '"properties":%s,"results":[' % _json(sums_row(telling))
+        json_of(notes), ',"properties":%s' % json_of({"coverage": telling.coverage.row()}))
+    yield '"properties":%s,"results":[' % json_of(sums_row(telling))
     listed: list[tuple[RatedFinding, Optional[Ignored]]] = [(told, None) for told in telling.told] + list(telling.ignored)
     places = places_in(telling.groups)
     for number, (told, ignored) in enumerate(listed, 1):
-        yield _json(_result(telling, told, ignored, places)) + ("," if number < len(listed) else "")
+        yield json_of(_result(telling, told, ignored, places)) + ("," if number < len(listed) else "")
     yield "]}]}"

@@ -9,6 +9,8 @@ BLANK = b" \t\r"
 BLOCK = 1 << 16
 # An object of JSON.
 Object = dict[str, Any]
+# The text of a value, on one line without spaces, in letters as they are.
+encode = json.JSONEncoder(ensure_ascii=False, separators=(",", ":")).encode
 STRING = re.compile(rb'"(?:[^"\\]|\\.)*"')
 
 

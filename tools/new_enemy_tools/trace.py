@@ -1,13 +1,13 @@
 """Reads a trace, or says what is wrong with the first line that the program refuses."""
-import gc
 from typing import Callable, Iterable, Iterator, Optional, Union
 
 from new_enemy_tools import limits, strictjson, texts
+from new_enemy_tools.collecting import held_off
 from new_enemy_tools.edges import Edge, TupleEdges, first_broken, rule_edges
 from new_enemy_tools.entries import Commit, Commits, Entries, Entry
 from new_enemy_tools.faults import ToolFault
+from new_enemy_tools.quick_reach import Look
 from new_enemy_tools.rules import Rules, RulesFault
-from new_enemy_tools.sight import Look
 from new_enemy_tools.store import Store
 from new_enemy_tools.strictjson import Object, is_u64
 from new_enemy_tools.texts import Tuple, Userset
@@ -92,7 +92,7 @@ class Trace:
         """Whether some of these commits may touch what a goal leads to: those that touch neither its user nor a userset, and have no new
         rules, do not."""
         assert isinstance(goal.user, int)
-        return any(_may_touch(self.commits.kept(place), goal.user) for place in places)
+        return any(_may_touch(self.commits.commit_or_line(place), goal.user) for place in places)
 
     def look(self, goal: Tuple, low: int, high: int) -> Optional[Look]:
         """What commits above one timestamp, up to another do to a goal, where that is quickly seen."""
@@ -392,12 +392,7 @@ def read_lines(numbered: Iterable[tuple[int, bytes]]) -> Trace:
 
 def read_trace(data: bytes, step: Callable[[int], None] = lambda line: None) -> Trace:
     """The trace; raises Fault on the first line that the program refuses. `step` is told now and then how many were read."""
-    trace, is_on = Trace(), gc.isenabled()
-    # Nothing of what is read is garbage, and looking for it takes half of the time.
-    gc.disable()
-    try:
+    trace = Trace()
+    with held_off():
         _take_lines(trace, data, step)
-    finally:
-        if is_on:
-            gc.enable()
     return trace

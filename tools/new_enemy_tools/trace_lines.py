@@ -273,8 +273,6 @@ def _by_value(lines: list[bytes]) -> Counted:
 
 # Lines as they are written
 
-_encode = json.JSONEncoder(ensure_ascii=False, separators=(",", ":")).encode
-
 
 def within_quotes(text: str) -> str:
     """A text within quotation marks, of which the last is left out."""
@@ -283,7 +281,7 @@ def within_quotes(text: str) -> str:
 
 
 def value_line(value: object) -> str:
-    return _encode(value) + "\n"
+    return strictjson.encode(value) + "\n"
 
 
 def time_key(time: Optional[str]) -> str:
@@ -337,7 +335,7 @@ IDS, STRATA, COVERAGE = "ids", "strata", "coverage"
 
 def mark_text(**said: object) -> str:
     """What an import adds to a line of a trace; an empty text where that is nothing."""
-    return _encode({key: value for key, value in said.items() if value is not None})[1:-1]
+    return strictjson.encode({key: value for key, value in said.items() if value is not None})[1:-1]
 
 
 def with_mark(line: bytes, mark: str) -> bytes:

@@ -86,14 +86,14 @@ class Line:
 
     def __init__(self, process: int):
         self.process = process
-        self.started = self.looked = time.monotonic()
+        self.started = self.last_look = time.monotonic()
         self.places: dict[str, int] = {}
         self.count = 0
 
     def said(self) -> str:
-        now, before, places, count = time.monotonic(), self.looked, self.places, self.count
+        now, before, places, count = time.monotonic(), self.last_look, self.places, self.count
         current = readings(self.process)
-        self.looked, self.places, self.count = now, {one.link: one.at for one in current}, bytes_read(self.process)
+        self.last_look, self.places, self.count = now, {one.link: one.at for one in current}, bytes_read(self.process)
         moved = [one for one in current if one.at > places.get(one.link, 0)]
         seconds = "%d s" % (now - self.started)
         if moved:

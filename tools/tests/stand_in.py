@@ -98,6 +98,16 @@ class Handler(BaseHTTPRequestHandler):
         self.service.call(self, method, self.path, body)
 
 
+def key_in(words):
+    """The key that a service asks for, which is taken out of the words; None where there is none."""
+    if "--key" not in words:
+        return None
+    place = words.index("--key")
+    key = words[place + 1]
+    del words[place:place + 2]
+    return key
+
+
 def jitter(random, most=0.002):
     time.sleep(random.random() * most)
 

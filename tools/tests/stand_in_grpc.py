@@ -12,7 +12,7 @@ import grpc
 sys.path.insert(0, __file__.rsplit("/", 2)[0])
 
 from tests.google_protobuf import OPENFGA_MESSAGES, SPICEDB_MESSAGES
-from tests.stand_in import Faults
+from tests.stand_in import Faults, key_in
 from tests.stand_in_openfga import OpenFga
 from tests.stand_in_spicedb import Numbers, SpiceDb
 
@@ -89,11 +89,7 @@ class Handler(grpc.GenericRpcHandler):
 
 
 def main(words):
-    key = None
-    if "--key" in words:
-        place = words.index("--key")
-        key = words[place + 1]
-        del words[place:place + 2]
+    key = key_in(words)
     kind, port, *rest = words
     model = rest.pop(0) if kind == "openfga" else None
     faults = Faults(float((rest + ["0"])[0]), (rest + [None] * 2)[1])

@@ -18,7 +18,7 @@ from random import Random
 sys.path.insert(0, __file__.rsplit("/", 2)[0])
 
 from tests.openfga_service import Service
-from tests.stand_in import Faults, jitter, serve
+from tests.stand_in import Faults, jitter, key_in, serve
 
 STORE = "01HVMMBCMGZNT3SED4Z17ECXCA"
 # A store that was made later: all that is asked of it is allowed.
@@ -178,11 +178,7 @@ def first_and_fault(values):
 
 
 def main(words):
-    key = None
-    if "--key" in words:
-        place = words.index("--key")
-        key = words[place + 1]
-        del words[place:place + 2]
+    key = key_in(words)
     with open(words[1], encoding="utf-8") as file:
         model = json.load(file)
     serve(OpenFga(model, Faults(float((words + ["0"] * 4)[2]), (words + [None] * 4)[3]), key), int(words[0]))

@@ -12,7 +12,7 @@ from random import Random
 sys.path.insert(0, __file__.rsplit("/", 2)[0])
 
 from tests.spicedb_service import Service
-from tests.stand_in import Faults, jitter, serve
+from tests.stand_in import Faults, jitter, key_in, serve
 
 SCHEMA = """definition user {}
 definition group {
@@ -227,14 +227,10 @@ class SpiceDb:
 
 
 def main(words):
-    key, tokens = None, Numbers()
+    key, tokens = key_in(words), Numbers()
     if "--postgres" in words:
         words.remove("--postgres")
         tokens = Snapshots()
-    if "--key" in words:
-        place = words.index("--key")
-        key = words[place + 1]
-        del words[place:place + 2]
     serve(SpiceDb(Faults(float((words + ["0"] * 3)[1]), (words + [None] * 3)[2]), key, tokens), int(words[0]))
 
 

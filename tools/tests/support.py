@@ -72,6 +72,13 @@ class Case(unittest.TestCase):
     def rows(self, name):
         return [json.loads(line) for line in self.get(name).splitlines()]
 
+    def assert_alike(self, one, two):
+        """Two folders of the same files."""
+        self.assertEqual(sorted(os.listdir(one)), sorted(os.listdir(two)))
+        for name in os.listdir(one):
+            with open(os.path.join(one, name), "rb") as left, open(os.path.join(two, name), "rb") as right:
+                self.assertEqual(left.read(), right.read(), name)
+
     def run_process(self, command, *words, stdin=""):
         return subprocess.run([sys.executable, NE, command, *words], cwd=self.room, input=stdin, capture_output=True, text=True, timeout=300)
 
@@ -103,6 +110,16 @@ class Case(unittest.TestCase):
         status, said = self.run_import(*words)
         self.assertEqual(status, 6 if "\nchecks: " in "\n" + said else 0, said)
         return said
+
+    def report(self, *lines, **more):
+        """The report on a log of some lines, by the words of the test's class; what its import said is kept."""
+        self.said = self.imported(*self.words(*lines, **more))
+        return self.audited()
+
+    def forget(self):
+        """Takes away what an import left, so that the next one begins anew."""
+        for name in "trace.jsonl", "ids.jsonl":
+            os.remove(self.path(name))
 
     def unaudited(self, *words):
         """Of an import that has to work the lines on checks that are not audited whole, with the first of each cause that is not at all."""

@@ -9,10 +9,10 @@ from new_enemy_tools.audited import read_audited
 from new_enemy_tools.commands import report as command
 from new_enemy_tools.effects import RatedFinding
 from new_enemy_tools.findings import read_report
-from new_enemy_tools.token_order import order_lines
-from new_enemy_tools.trace_lines import OtherForm
 from new_enemy_tools.telling import told_of
+from new_enemy_tools.token_order import order_lines
 from new_enemy_tools.trace import Trace, read_trace
+from new_enemy_tools.trace_lines import OtherForm
 from tests.random_traces import NAMESPACES, PlainIds, RandomInput
 from tests.support import Case
 
@@ -61,7 +61,7 @@ class Audited(Case):
             self.assertEqual(told, self.told(read_trace(data), report))
             seen.update(one.effect.word for one in told)
             for patched in ({"FEW": 1}, {"SHORT": 0}, {"SEARCHES": 0, "NEAR": 100}, {"SEARCHES": 1, "NEAR": 0}):
-                with mock.patch.multiple("new_enemy_tools.sight", **patched), mock.patch("new_enemy_tools.effects.Effects.FEW", 2):
+                with mock.patch.multiple("new_enemy_tools.quick_reach", **patched), mock.patch("new_enemy_tools.effects.Effects.FEW", 2):
                     self.assertEqual(told, self.told(read_audited(data), report), patched)
         self.assertEqual(set(seen), {"none", "possible", "changed"})
 

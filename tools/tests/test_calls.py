@@ -1,10 +1,11 @@
 """What services and their tools print: calls that answer many questions, store files, and lines of other tools."""
 import json
-import os
+import unittest
+from unittest import mock
 
-from new_enemy_tools.importing import causes
+from new_enemy_tools.importing import causes, yaml_files
 from new_enemy_tools.importing.located import Malformed
-from new_enemy_tools.importing.simple_yaml import parse_yaml
+from new_enemy_tools.importing.yaml_files import parse_yaml, yaml
 from tests.support import Case
 from tests.test_openfga import MODEL, THIS, change
 from tests.test_openfga_dsl import DSL
@@ -13,15 +14,14 @@ from tests.test_spicedb import SCHEMA, VIEW, thing, update, watch
 from tests.test_spicedb import check as zed_check
 
 
+NEEDS_YAML = unittest.skipIf(yaml is None, "PyYAML is not installed")
+
+
 def key(user, thing="doc:1", relation="viewer"):
     return {"tuple_key": {"user": user, "relation": relation, "object": thing}}
 
 
 class CallsCase(Case):
-    def forget(self):
-        for name in "trace.jsonl", "ids.jsonl":
-            os.remove(self.path(name))
-
     def goals(self):
         """The goals of the trace with their replies, by the names of the table."""
         users = [row["id"] for row in self.rows("ids.jsonl")]
@@ -137,6 +137,7 @@ class OpenFga(CallsCase):
         self.assertNotIn("not audited", said)
         self.assertIn("verdict clean", self.audited())
 
+    @NEEDS_YAML
     def test_a_store_file(self):
         text = "name: shop\nmodel: |\n%s\ntuples:\n  - user: user:a\n    relation: owner\n    object: doc:1\n%s" % (
             "".join("  %s\n" % line for line in DSL.splitlines()), "  - user: user:*\n    relation: owner\n    object: doc:2\n")
@@ -152,8 +153,8 @@ class OpenFga(CallsCase):
         self.put("store.fga.yaml", text + "tuple_file: other.yaml\n")
         self.assertIn("tuples in files of their own are not read; give them with --base", self.run_import(*words)[1])
         self.put("model.fga", DSL)
-        self.put("store.fga.yaml", "model_file: ./model.fga\ntuples:\n- {user: a}\n")
-        self.assertIn("store.fga.yaml:3: YAML that is not read: {user: a}\n", self.run_import(*words)[1])
+        self.put("store.fga.yaml", "model_file: ./model.fga\ntuples:\n- {user: &a a}\n")
+        self.assertIn("store.fga.yaml:3: YAML that is not read: an anchor, an alias or a tag\n", self.run_import(*words)[1])
         self.put("store.fga.yaml", "model_file: ./model.fga\n")
         self.assertIn("commits 0, checks 3", self.imported(*words))
 
@@ -242,6 +243,7 @@ class SpiceDb(CallsCase):
         self.imported(*words)
         self.assertEqual(self.audited(), "entries 3\nfindings 0\nverdict clean\n")
 
+    @NEEDS_YAML
     def test_a_validation_file(self):
         text = "schema: |-\n%srelationships: |\n  // some\n  doc:1#viewer@group:g#member\n  group:g#member@user:m\n%s" % (
             "".join("  %s\n" % line for line in (SCHEMA % VIEW).splitlines()),
@@ -257,6 +259,7 @@ class SpiceDb(CallsCase):
         self.assertIn("valid.yaml:4: no relationship", self.run_import(*words)[1])
 
 
+@NEEDS_YAML
 class Yaml(Case):
     def test_values(self):
         self.assertEqual(parse_yaml("# c\n---\na: b # c\n\"x y\": 'it''s'\nl:\n- 1\n-   k: v\n    m:\n-\n  - \"\\u0041\" # n\nd#e:f: g\nz:\n"),
@@ -264,11 +267,28 @@ class Yaml(Case):
         self.assertEqual(parse_yaml("a: |\n   x\n\n   \ty\n    z\nb: >-\n  p\n  q\n"), {"a": "x\n\n\ty\n z\n", "b": "p q"})
         self.assertEqual(json.dumps(parse_yaml("")), "{}")
 
+        self.assertEqual(parse_yaml("a: [1, {b: c}]\nd: ~\ne: >\n  f\n  g\n"), {"a": ["1", {"b": "c"}], "d": "~", "e": "f g\n"})
+
+    def test_lines(self):
+        found = parse_yaml("a: 1\nb:\n  - c\n  - d: e\nf: |\n\n  g\n")
+        self.assertEqual((found.line, found.lines, found["b"].line, found["b"][1].line, found["f"].line), (1, {"a": 1, "b": 2, "f": 5}, 3, 4, 6))
+
     def test_what_is_not_read(self):
-        for text, line, why in (("a: [1]", 1, "[1]"), ("a: &b c", 1, "&b c"), ("a: b\n  c: d", 2, "this line is indented as none before"),
-                                ("a:\n\tb: c", 2, "a tab in the indentation"), ("a: 'b", 1, "a text in quotation marks: 'b"),
-                                ("a: b\n---\nc: d", 2, "this line is indented as none before"),
-                                ("- " * 200 + "a", 1, "nested too deep")):
-            with self.assertRaises(Malformed) as caught:
-                parse_yaml(text)
-            self.assertEqual((caught.exception.line, str(caught.exception)), (line, "YAML that is not read: " + why))
+        marked = "an anchor, an alias or a tag"
+        for text, line, why in (("a: &b c", 1, marked), ("a: 1\nb: *a", 2, marked), ("a: !b c", 1, marked), ("a: b\n  c: d", 2, ""), ("a:\n\tb: c", 2, ""),
+                                ("a: 'b", 1, ""), ("a: b\n---\nc: d", 2, "a second document"), ("- " * 200 + "a", 1, "nested too deep"),
+                                ("[" * 100_000, 1, "nested too deep"), ("? {a: b}\n: c", 1, "a key that is no text"), ("a: \x01", 1, "")):
+            for loader in "CSafeLoader", "SafeLoader":
+                # the quick loader is not everywhere, and has other words
+                with mock.patch.object(yaml, "CSafeLoader", getattr(yaml, loader, yaml.SafeLoader), create=True), self.assertRaises(Malformed) as caught:
+                    parse_yaml(text)
+                self.assertEqual(caught.exception.line, line, text)
+                self.assertIn("YAML that is not read: " + why, str(caught.exception))
+        with self.assertRaisesRegex(Malformed, "^the key 'a' stands twice$"):
+            parse_yaml("a: 1\na: 2")
+
+    def test_without_the_library(self):
+        self.put("valid.yaml", "schema: ''\n")
+        self.put("log", [])
+        with mock.patch.object(yaml_files, "yaml", None):
+            self.assertEqual(self.refused("spicedb", "--schema", "valid.yaml", "--from-empty", "log"), ["valid.yaml:1: " + yaml_files.MISSING])

@@ -34,7 +34,7 @@ class Commands(Case):
     def test_the_list(self) -> None:
         said = self.run_tool("--help").stdout
         for name, command in ne.COMMANDS.items():
-            self.assertRegex(said, "(?m)^  %s +%s$" % (name, command.told))
+            self.assertRegex(said, "(?m)^  %s +%s$" % (name, command.does))
 
     def test_usage(self) -> None:
         for words in ([], ["other"], *([name] for name in ne.COMMANDS), *([name, "--other"] for name in ne.COMMANDS)):

@@ -166,8 +166,7 @@ class Order(CoreCase):
         self.imported(*self.two("--skew", "10", first=first, second=second))
         self.assertEqual([row["kind"] for row in self.rows("trace.jsonl")][1:],
                          ["commit", "check", "commit", "check", "commit", "content"])
-        os.remove(self.path("trace.jsonl"))
-        os.remove(self.path("ids.jsonl"))
+        self.forget()
         self.assertEqual(self.unaudited(*self.two("--skew", "500", first=first, second=second)), [
             "not audited: %s, first at two:1: which came first, this check or the write at one:2, is not known: they are 500 ms apart, and the "
             "skew is 500 ms" % causes.ORDER_UNKNOWN, "not audited 2: %s" % causes.ORDER_UNKNOWN])

@@ -86,13 +86,6 @@ class Placing(PartsCase):
         self.assertEqual(parts("cut", 3, self.put("trace", trace), self.put("evidence", evidence), two).returncode, 0)
         self.assert_alike(one, two)
 
-    def assert_alike(self, one, two):
-        """Two folders of the same files."""
-        self.assertEqual(sorted(os.listdir(one)), sorted(os.listdir(two)))
-        for name in os.listdir(one):
-            with open(os.path.join(one, name), "rb") as left, open(os.path.join(two, name), "rb") as right:
-                self.assertEqual(left.read(), right.read(), name)
-
     def test_any_number_of_processes_cuts_alike(self):
         """Blocks that are small, and much or little of them that is joined in the processes."""
         joined = b"".join(RandomInput(Random("shared %d" % number)).refused() for number in range(12))

@@ -10,14 +10,14 @@ from new_enemy_tools.findings import FORMS
 from new_enemy_tools.parting.blocks import Blocks
 from new_enemy_tools.trace_lines import OtherForm
 from new_enemy_tools.windowing import window_effects
+from new_enemy_tools.windowing.audited_window import NOTHING, Refused, audited, audited_so_far
 from new_enemy_tools.windowing.auditing import How
 from new_enemy_tools.windowing.carrying import Keep
-from new_enemy_tools.windowing.faults import WindowFault
 from new_enemy_tools.windowing.following import Following
-from new_enemy_tools.windowing.window_bytes import Own
-from new_enemy_tools.windowing.audited_window import NOTHING, Refused, audited, audited_so_far
 from new_enemy_tools.windowing.scanning import scan, scan_checks
 from new_enemy_tools.windowing.state import State
+from new_enemy_tools.windowing.window_bytes import Own
+from new_enemy_tools.windowing.window_faults import WindowFault
 from tests.random_traces import PlainIds, RandomInput
 from tests.random_windows import RandomHistory, cut_at_commits
 from tests.test_windows import WindowCase
@@ -90,8 +90,8 @@ class Followed(WindowCase):
                 self.put("window", data)
                 parts = random.choice([1, 1, 3])
                 wanted, found = self.audited(old, parts), self.followed(random, old, data, parts)
-                self.assertEqual((found.told, found.carry, found.carried), (wanted.told, wanted.carry, wanted.carried))
-                statuses.add(found.told.status())
+                self.assertEqual((found.report, found.carry, found.carried), (wanted.report, wanted.carry, wanted.carried))
+                statuses.add(found.report.status())
                 quick += self.compare_effects(found, Own(self.path("window"), old, False))
                 old = State(found.carry.head, found.carry.rows, "0")
         self.assertEqual(statuses, {0, 1})
@@ -127,7 +127,7 @@ class Followed(WindowCase):
         following = Following(NOTHING, self.how())
         following.take(data, None)
         found = self.audited(NOTHING, 2, following)
-        self.assertEqual(found.told, self.audited(NOTHING).told)
+        self.assertEqual(found.report, self.audited(NOTHING).report)
 
     def test_a_program_that_does_not_read(self):
         data = b'{"kind":"namespace","name":"doc","relations":[{"name":"viewer"}]}\n' * 20_000

@@ -110,7 +110,7 @@ class Reading(CoreCase):
     def read(self):
         try:
             ids = Ids(self.path("table"))
-            return ids.rows, ids.numbers, ids.service, ids.kept
+            return ids.rows, ids.numbers, ids.service, ids.saved
         except TableFault as fault:
             return str(fault)
 

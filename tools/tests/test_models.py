@@ -63,10 +63,6 @@ class TightenedModels(Case):
         self.assertEqual(self.struck(*self.words(wide, *log, check("user:a", "editor", at=3, request=of("tight")))),
                          ["log:5: check of a relation that the rules do not have: doc:1#editor of model tight@user:a"])
 
-    def forget(self):
-        for name in "trace.jsonl", "ids.jsonl":
-            os.remove(self.path(name))
-
     def test_models_side_by_side_are_judged_each_by_theirs(self):
         wide, tight = model(["user", "group#member"], "wide"), model(["user"], "tight")
         log = [MEMBER, VIEWER, {"authorization_model": tight}]

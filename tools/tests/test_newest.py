@@ -1,5 +1,4 @@
 """Content checks that are logged behind their evaluation, and say that they were evaluated at the newest state."""
-import os
 from random import Random
 
 from new_enemy_tools.importing import causes
@@ -59,8 +58,7 @@ class Newest(CoreCase):
             "not audited: %s, first at log:2: `newest` is said of a content check" % causes.UNREADABLE,
             "not audited: %s, first at log:3: `newest` is neither true nor false" % causes.UNREADABLE_CONTENT,
             "not audited 1: %s" % causes.UNREADABLE, "not audited 2: %s" % causes.UNREADABLE_CONTENT])
-        os.remove(self.path("trace.jsonl"))
-        os.remove(self.path("ids.jsonl"))
+        self.forget()
         self.assertEqual(self.refusals(RULES, check(1, newest=1)), ["log:2: `newest` is neither true nor false"])
 
 

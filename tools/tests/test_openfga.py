@@ -241,8 +241,7 @@ class Places(Case):
         self.put("one", [page("user:a", "more")])
         self.put("two", [page("user:b", "")])
         self.assertIn("checks 2", self.imported(*words))
-        for name in "trace.jsonl", "ids.jsonl":
-            os.remove(self.path(name))
+        self.forget()
         self.put("two", [page("user:b", "still more")])
         self.assertEqual(self.refused(*words), [
             "two:1: the base state goes on behind this page, which has a `continuation_token`: give all pages of Read"])
@@ -253,8 +252,7 @@ class Places(Case):
         self.put("base.json", [{"key": change("user:a")["tuple_key"]}])
         self.assertEqual(self.audit([change("user:b"), check(at=7), check("user:b", at=7, allowed=False), check("user:b", at=8)],
                                     *words)[-1], "verdict clean")
-        os.remove(self.path("trace.jsonl"))
-        os.remove(self.path("ids.jsonl"))
+        self.forget()
         self.assertEqual(self.struck(*self.words([change("user:b"), check(at=6), check(at=9)], *words)), [
             "log:2: check before the base state: its snapshot is place 6",
             "log:3: check without one snapshot: place 9 is beyond the feed, which ends at place 8"])
@@ -342,7 +340,7 @@ class Examples(Case):
 
 class InShort(Case):
     def test_each_run_has_its_own_numbers_for_tuples_whatever_the_seed_of_python(self):
-        words = [sys.executable, "-c", "from new_enemy_tools.importing.short import short; print(*map(short, [('doc', '1')] * 2))"]
+        words = [sys.executable, "-c", "from new_enemy_tools.importing.keyed_hash import short; print(*map(short, [('doc', '1')] * 2))"]
         runs = [subprocess.run(words, cwd=TOOLS, env={**os.environ, "PYTHONHASHSEED": "0"}, capture_output=True, text=True) for _ in range(2)]
         (one, again), (other, _) = (run.stdout.split() for run in runs)
         self.assertEqual(one, again)

@@ -57,12 +57,6 @@ class PiecesCase(Case):
         """What stands in the folder beside the log."""
         return sorted(set(os.listdir(self.room)) - {"log"})
 
-    def assert_alike(self, one, two):
-        """Two folders of the same files."""
-        self.assertEqual(sorted(os.listdir(one)), sorted(os.listdir(two)))
-        for name in os.listdir(one):
-            self.assertEqual(read(os.path.join(one, name)), read(os.path.join(two, name)), name)
-
 
 class Written(PiecesCase):
     def test_one_behind_the_other_they_are_the_trace(self):

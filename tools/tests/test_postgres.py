@@ -1,6 +1,5 @@
 """Tokens of SpiceDB on PostgreSQL: composed by hand, one for each branch; and orders of commits against a plain evaluator."""
 import base64
-import os
 from collections import Counter
 from random import Random
 
@@ -166,8 +165,7 @@ class Imports(Case):
             "log:5: check that can't be read: `checkedAt` of the response is of SpiceDB on PostgreSQL in the older form xid.xmin, which does not "
             "say what it sees", "log:6: %s: 10:10:+11" % causes.TOKEN_NO_BEGINNING,
             "log:7: check that can't be read: the token is of another datastore than `checkedAt`"])
-        for name in ("trace.jsonl", "ids.jsonl"):
-            os.remove(self.path(name))
+        self.forget()
         self.assertEqual(self.refused(*self.words([watch(revision(10, 10, own=10), update("user:a")), check(7)])), [
             "log:2: its revision 7 is a number, and that of log:1 a snapshot of PostgreSQL"])
 
@@ -177,8 +175,7 @@ class Imports(Case):
         words = ("--base", "base", "--base-at", token_text(revision(15, 18, [15, 16])))
         self.imported(*self.words(log, *words))
         self.assertEqual(self.audited().splitlines()[-1], "verdict clean")
-        for name in ("trace.jsonl", "ids.jsonl"):
-            os.remove(self.path(name))
+        self.forget()
         log += [check(revision(17, 17)), watch(revision(17, 17, own=17), update("user:z"))]
         self.assertEqual(self.refused(*self.words(log[:4] + log[5:] + log[4:5], *words)), [
             "log:5: its revision 17:17:+17 is not later than that of the base state"])

@@ -1,6 +1,5 @@
 """What servers and their clients print: logs of OpenFGA and of SpiceDB, numbers for names, and JSON of protobuf without its defaults."""
 import json
-import os
 
 from new_enemy_tools.importing.feed import NO_SNAPSHOT
 from new_enemy_tools.importing.printed import UNTOLD
@@ -14,23 +13,13 @@ from tests.test_spicedb import SCHEMA, VIEW, thing, update, watch
 AT = "2024-01-01T00:00:%02dZ"
 
 
-class LogCase(Case):
-    def forget(self):
-        for name in "trace.jsonl", "ids.jsonl":
-            os.remove(self.path(name))
-
-
-class OpenFga(LogCase):
+class OpenFga(Case):
     check = staticmethod(test_openfga.check)
 
     def words(self, *lines, model=MODEL % THIS):
         self.put("model.json", model)
         self.put("log", list(lines))
         return "openfga", "--model", "model.json", "--from-empty", "log"
-
-    def report(self, *lines, **more):
-        self.said = self.imported(*self.words(*lines, **more))
-        return self.audited()
 
     @staticmethod
     def printed(method, request, response=None, code=0, at=1714986000.5, **more):
@@ -174,7 +163,7 @@ class OpenFga(LogCase):
         self.assertEqual(self.audited(), "entries 1\nfindings 0\nverdict clean\n")
 
 
-class OfOtherCommands(LogCase):
+class OfOtherCommands(Case):
     def test_what_another_command_reads_is_told_so(self):
         """Envoy's taps, and what applications say of their checks."""
         self.put("schema.zed", SCHEMA % VIEW)
@@ -196,15 +185,11 @@ class OfOtherCommands(LogCase):
                 "log:1: neither a response of Watch nor a check with its `request`"])
 
 
-class SpiceDb(LogCase):
+class SpiceDb(Case):
     def words(self, *lines, schema=SCHEMA % VIEW):
         self.put("schema.zed", schema)
         self.put("log", list(lines))
         return "spicedb", "--schema", "schema.zed", "--from-empty", "log"
-
-    def report(self, *lines, **more):
-        self.said = self.imported(*self.words(*lines, **more))
-        return self.audited()
 
     check = staticmethod(test_spicedb.check)
 

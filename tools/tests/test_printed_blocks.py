@@ -8,7 +8,7 @@ from itertools import islice
 from random import Random
 from unittest import mock
 
-from new_enemy_tools.importing import block, carried, core, feed, located
+from new_enemy_tools.importing import block, carried, core, feed, located, printed
 from new_enemy_tools.importing.carried import Blocks, Carrying, step_in
 from new_enemy_tools.importing.printed import steps_of
 from new_enemy_tools.importing.spool import Facts
@@ -200,7 +200,7 @@ class Joined(PrintedCase):
         self.assertGreater(len(found), 5)
         self.assertEqual(carrying.left(), [(1, "WriteRelationships")])
         self.assertTrue(any(one.waiting for one in found))
-        with mock.patch.object(carried, "ANSWERED", 3):
+        with mock.patch.object(printed, "ANSWERED", 3):
             carrying = Carrying()
             list(carrying.carried(places))
             self.assertLessEqual(len(carrying.answered), 3)

@@ -165,8 +165,7 @@ class Refusals(Case):
         self.put("log", log)
         self.assertEqual(self.struck("spicedb", "--schema", "schema.zed", "--from-empty", "log"), [
             "log:3: check that hangs on a tuple or rule that was left out: doc:1#view@user:a"])
-        os.remove(self.path("trace.jsonl"))
-        os.remove(self.path("ids.jsonl"))
+        self.forget()
         self.assertEqual(self.refusals([], "  permission view = viewer - b\n  permission b = view"), [
             "schema.zed:10: recursion through exclusion, by the rule of doc#b: doc#view reads doc#b strictly by the rule of "
             "doc#view at schema.zed:9; doc#b reads doc#view by the rule of doc#b at schema.zed:10"])

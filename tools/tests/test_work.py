@@ -61,7 +61,9 @@ class Counted(Case):
                              text=True, timeout=300)
         self.assertEqual((run.returncode, run.stdout, run.stderr), (0, read("bench", "hostile.md"), ""))
         rows = [line for line in run.stdout.splitlines() if line.startswith("| `")]
-        self.assertEqual(len(rows), sum(" a byte" in line for line in read("bench", "hostile.txt").splitlines()))
+        printed = [line for line in read("bench", "hostile.txt").splitlines() if " a byte" in line]
+        self.assertEqual(len(rows), sum(line.endswith(")") for line in printed))
+        self.assertIn("The other %d rows" % (len(printed) - len(rows)), run.stdout)
 
     def test_the_tables_name_kinds(self) -> None:
         """And the head of the generator tells each kind, in the order of its table."""

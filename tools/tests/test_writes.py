@@ -1,6 +1,5 @@
 """Writes that a log has in the calls that made them; changes that were read twice; and calls within events of CloudEvents."""
 import json
-import os
 from unittest import mock
 
 from new_enemy_tools.importing import located
@@ -22,14 +21,6 @@ class SpiceDb(Case):
         self.put("schema.zed", SCHEMA % VIEW)
         self.put("log", list(lines))
         return "spicedb", "--schema", "schema.zed", "--from-empty", "log"
-
-    def report(self, *lines):
-        self.said = self.imported(*self.words(*lines))
-        return self.audited()
-
-    def forget(self):
-        for name in "trace.jsonl", "ids.jsonl":
-            os.remove(self.path(name))
 
     check = staticmethod(test_spicedb.check)
 
@@ -176,18 +167,10 @@ class SpiceDb(Case):
 class OpenFga(Case):
     check = staticmethod(test_openfga.check)
 
-    def forget(self):
-        for name in "trace.jsonl", "ids.jsonl":
-            os.remove(self.path(name))
-
     def words(self, *lines):
         self.put("model.json", MODEL % THIS)
         self.put("log", list(lines))
         return "openfga", "--model", "model.json", "--from-empty", "log"
-
-    def report(self, *lines):
-        self.said = self.imported(*self.words(*lines))
-        return self.audited()
 
     @staticmethod
     def write(second, writes=(), deletes=()):
@@ -223,12 +206,10 @@ class OpenFga(Case):
             self.assertEqual(self.refused(*self.words(written, odd, stale)), ["log:2: " + self.UNSEEN])
             shown = change("user:a"), change("user:b")
             self.assertEqual(self.report(written, odd, *shown, self.check()), "entries 1\nfindings 0\nverdict clean\n")
-            os.remove(self.path("trace.jsonl"))
-            os.remove(self.path("ids.jsonl"))
+            self.forget()
             odd["request"][side][key] = "error"
             self.assertEqual(self.report(written, odd, self.check(at=AT % 1)), "entries 1\nfindings 0\nverdict clean\n")
-            os.remove(self.path("trace.jsonl"))
-            os.remove(self.path("ids.jsonl"))
+            self.forget()
 
     def test_a_tuple_that_is_written_twice_says_that_a_change_is_missing(self):
         """A deletion between them, which made a stale reply right."""
@@ -289,8 +270,7 @@ class OpenFga(Case):
         again = change("user:a", at=AT % 3, operation="DELETE"), change("user:a", at=AT % 5)
         lines = shown[0], self.write(1, ["user:a"]), self.write(5, ["user:a"]), *again
         self.assertEqual(self.report(*lines, self.check(at=AT % 5)), "entries 1\nfindings 0\nverdict clean\n")
-        os.remove(self.path("trace.jsonl"))
-        os.remove(self.path("ids.jsonl"))
+        self.forget()
         self.assertEqual(self.refused(*self.words(*lines[1:], self.check(at=1))), ["log:1: " + told])
         # A change that is read twice is one.
         self.assertEqual(self.refused(*self.words(*lines[:2], *lines[:1], self.write(2, ["user:a"]), again[0], self.check(at=1))), ["log:4: " + told])
@@ -349,8 +329,7 @@ class OpenFga(Case):
         stale = self.check(at=3)
         for log in pages, pages + pages[2:], pages[:2] * 2 + pages[2:]:
             self.assertIn("F10 wrong reply", self.report(*log, stale))
-            os.remove(self.path("trace.jsonl"))
-            os.remove(self.path("ids.jsonl"))
+            self.forget()
         told = ("these changes go on from a `continuation_token` that no page of the log gives: a page of changes is missing; give all pages from "
                 "the first on, or from the base state on")
         self.assertEqual(self.refused(*self.words(*pages[:2], *pages[3:], self.check(at=2))), ["log:3: " + told])
@@ -362,8 +341,7 @@ class OpenFga(Case):
         self.put("log", [*pages[1:], self.check(at=2)])
         self.imported(*words)
         self.assertEqual(self.audited(), "entries 1\nfindings 0\nverdict clean\n")
-        os.remove(self.path("trace.jsonl"))
-        os.remove(self.path("ids.jsonl"))
+        self.forget()
         self.put("log", [*pages[1:3], *pages[4:], self.check(at=2)])
         self.assertEqual(self.refused(*words), ["log:3: " + told])
         odd = page("1", "2", change("user:b", at=AT % 2), continuation_token=[1])
@@ -384,8 +362,7 @@ class OpenFga(Case):
             lines = [*bare, *read[1:], *read[1:], *read[2:4], stale]
             self.assertIn("F10 wrong reply", self.report(*lines))
             self.assertIn("F10 wrong reply", self.report(*numbered(lines)))
-            os.remove(self.path("trace.jsonl"))
-            os.remove(self.path("ids.jsonl"))
+            self.forget()
             for log, line in (read[1:2] + read[3:], 2), (read[2:] + read[1:2], 5):
                 lines = [*bare, *log, self.check(at=4)]
                 for given in lines, numbered(lines):

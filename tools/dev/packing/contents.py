@@ -32,7 +32,7 @@ Maintainer: the authors of new_enemy <none@localhost>
 Installed-Size: {size}
 Depends: libc6 (>= {libc})
 Recommends: python3 (>= 3.9)
-Suggests: python3-orjson, python3-grpcio, graphviz, zstd
+Suggests: python3-grpcio, python3-orjson, python3-yaml, graphviz, zstd
 Section: admin
 Priority: optional
 Description: proved auditor for authorization services that work as Zanzibar does

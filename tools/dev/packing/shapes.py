@@ -108,7 +108,7 @@ def shape_of(name: str, told: str, parser: argparse.ArgumentParser) -> Shape:
 def tools_shape(name: str) -> Shape:
     """All commands of the tools, below the name by which they are called."""
     top = ne.parser()
-    below = [shape_of(each, command.told, parser_of(command.module)) for each, command in ne.COMMANDS.items()]
+    below = [shape_of(each, command.does, parser_of(command.module)) for each, command in ne.COMMANDS.items()]
     options = tuple(_option(top, action) for action in top._actions if action.option_strings)
     return Shape(name, "the tools around the auditor new_enemy", "COMMAND ..", "", options, (), tuple(below))
 

@@ -15,7 +15,6 @@ kept and not told is told by the next run.
 """
 import argparse
 import contextlib
-import gc
 import io
 import json
 import os
@@ -24,28 +23,28 @@ import sys
 from argparse import Namespace
 from typing import Callable, NamedTuple, Optional
 
+from new_enemy_tools.collecting import held_off
 from new_enemy_tools.commands import import_logs
 from new_enemy_tools.commands.running import Parser, add_skew
-from new_enemy_tools.commands.window import add_auditing, add_keeping, keep_of, places, refuse_usage
+from new_enemy_tools.commands.window import FAULTS, add_auditing, add_keeping, keep_of, places, refuse_usage, status_of
 from new_enemy_tools.coverage import Coverage
 from new_enemy_tools.files import write_whole
 from new_enemy_tools.ids import Ids
 from new_enemy_tools.importing.chained import end_of, head_of
 from new_enemy_tools.importing.going_on import cut, read_left, write_left
 from new_enemy_tools.labels import Labels
-from new_enemy_tools.parting.faults import PartsFault
 from new_enemy_tools.progress import Progress
 from new_enemy_tools.shown import tell as tell_line
-from new_enemy_tools.windowing.audited_window import Audited, Refused, audited, audited_so_far, parts_needed, state_before, write_next
+from new_enemy_tools.windowing.audited_window import Audited, audited, audited_so_far, parts_needed, state_before, write_next
 from new_enemy_tools.windowing.auditing import How
 from new_enemy_tools.windowing.carrying import version_of
 from new_enemy_tools.windowing.days import COMPARED, INDEX, JOINED_LOG, MAIL, PAGE, Days, Summary, compared, digest_of
-from new_enemy_tools.windowing.faults import WindowFault
 from new_enemy_tools.windowing.following import Following
 from new_enemy_tools.windowing.keeping import keep_trace
 from new_enemy_tools.windowing.state import State
 from new_enemy_tools.windowing.window_bytes import Own
 from new_enemy_tools.windowing.window_effects import labels_at, texts_of
+from new_enemy_tools.windowing.window_faults import WindowFault
 
 # The worst of two runs first.
 STATUSES = (2, 1, 6, 0)
@@ -199,8 +198,6 @@ def audited_day(days: Days, given: Namespace, before: import_logs.Before, progre
 def made(days: Days, given: Namespace, digest: str, progress: Progress) -> int:
     """Makes the next day; its number."""
     os.makedirs(days.work(), exist_ok=True)
-    # Rows make no circles, and there may be many of them to look through.
-    gc.disable()
     before = go_on(days, given)
     try:
         own, found = audited_day(days, given, before, progress)
@@ -221,10 +218,10 @@ def kept(days: Days, given: Namespace, own: Own, found: Audited, ids: Optional[I
         # Days without pages need not wait until this is loaded.
         from new_enemy_tools.windowing.day_pages import write_day
         write_day(found, own, ids, 1 + (days.last or 0), days.work(PAGE))
-    told = found.told
+    report = found.report
     write_whole(days.work("summary.json"), [json.dumps(Summary(
-        given.names, digest, told.status(given.allow_unaudited), told.entries, len(told.findings),
-        sum(told.coverage.not_audited.values()), told.held, told.verdict, told.coverage.row(), labels._asdict(), given.held_back)._asdict())])
+        given.names, digest, report.status(given.allow_unaudited), report.entries, len(report.findings),
+        sum(report.coverage.not_audited.values()), report.held, report.verdict, report.coverage.row(), labels._asdict(), given.held_back)._asdict())])
     if given.keep_days:
         keep_trace(days.work(), found, own)
     if os.path.exists(days.work("trace")):
@@ -242,10 +239,10 @@ def write_reports(days: Days, found: Audited, own: Own, ids: Optional[Ids], labe
     """The report as text, and with effects as rows of JSON; and what is written out, with what the days before say of their checks. `said` is
     what is told of what waits."""
     texts, where = texts_of(found, own, ids), places(found, own).__getitem__
-    write_whole(days.work("report.txt"), found.told.lines(where, beside=said))
+    write_whole(days.work("report.txt"), found.report.lines(where, beside=said))
     write_whole(days.work("report.jsonl"), texts.rows)
     before = [(number, days.summary(number).looked) for number in days.numbers[:-COMPARED - 1:-1]]
-    write_whole(days.work(MAIL), found.told.lines(where, texts.groups, [*said, *compared(labels, before)]))
+    write_whole(days.work(MAIL), found.report.lines(where, texts.groups, [*said, *compared(labels, before)]))
 
 
 def cannot_show(said: list[str], is_first: bool) -> list[str]:
@@ -304,18 +301,11 @@ def main(words: list[str]) -> int:
     days: Optional[Days] = None
     try:
         days = Days(given.folder)
-        with Progress() as progress:
+        with held_off(), Progress() as progress:
             return run(days, given, progress)
-    except Refused as fault:
-        sys.stderr.write(fault.answer.error)
-        return fault.answer.status
-    except (WindowFault, PartsFault) as fault:
-        tell_line("day: %s" % fault, sys.stderr)
-        return NOTHING_NEW if isinstance(fault, NothingNew) else 2
-    except OSError as fault:
-        tell_line("day: %s" % ": ".join(str(said) for said in (fault.filename, fault.strerror) if said), sys.stderr)
-        return 5
+    except FAULTS as fault:
+        status = status_of("day", fault)
+        return NOTHING_NEW if isinstance(fault, NothingNew) else status
     finally:
-        gc.enable()
         if days is not None:
             days.close()

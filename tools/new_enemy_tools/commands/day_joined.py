@@ -11,7 +11,7 @@ from new_enemy_tools.recording.days_joined import Before, Taken, Waiting, join_d
 from new_enemy_tools.recording.log_files import LogFiles
 from new_enemy_tools.recording.sketches import JOINED, Given
 from new_enemy_tools.windowing.days import JOIN, JOINED_LOG, Days
-from new_enemy_tools.windowing.faults import WindowFault
+from new_enemy_tools.windowing.window_faults import WindowFault
 
 
 class Joined(NamedTuple):

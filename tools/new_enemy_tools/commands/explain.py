@@ -16,9 +16,9 @@ from new_enemy_tools.explanations import Explainer
 from new_enemy_tools.files import read_bytes, read_ids, read_joined, read_trace_of, split_joined
 from new_enemy_tools.judging import judge
 from new_enemy_tools.names import Names
+from new_enemy_tools.not_a_trace import hints
 from new_enemy_tools.progress import Progress
 from new_enemy_tools.shown import tell
-from new_enemy_tools.strange import hints
 from new_enemy_tools.trace import Fault, Trace
 from new_enemy_tools.windowing.keeping import kept_day
 

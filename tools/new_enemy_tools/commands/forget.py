@@ -10,7 +10,7 @@ from new_enemy_tools.commands.running import Parser
 from new_enemy_tools.files import write_whole
 from new_enemy_tools.shown import tell
 from new_enemy_tools.windowing.days import INDEX, Days
-from new_enemy_tools.windowing.faults import WindowFault
+from new_enemy_tools.windowing.window_faults import WindowFault
 
 
 def main(words: list[str]) -> int:

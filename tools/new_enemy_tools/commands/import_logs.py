@@ -8,7 +8,6 @@ It writes the trace and adds to the table of ids, and ends with status 0, or 6 w
 standard error says which, and why. Where anything is refused it writes neither, lists all refusals, and ends with status 2. A trace with more bytes than one program takes is written in pieces, which
 `ne parts cut` takes as the one trace that they are (docs/SCALE.md).
 """
-import gc
 import os
 import sys
 from argparse import Namespace
@@ -17,6 +16,7 @@ from itertools import chain
 from typing import Any, Iterable, Iterator, NamedTuple, Optional
 
 from new_enemy_tools import limits
+from new_enemy_tools.collecting import held_off
 from new_enemy_tools.commands.running import Parser, add_allowing
 from new_enemy_tools.coverage import Coverage, mark_of
 from new_enemy_tools.faults import DeviceFault
@@ -26,12 +26,12 @@ from new_enemy_tools.importing.chained import in_chain, last_of
 from new_enemy_tools.importing.core import Core, Given, GoesOn
 from new_enemy_tools.importing.going_on import Left, read_left, refuse_other, write_left
 from new_enemy_tools.importing.neutral import gather_events
-from new_enemy_tools.importing.numbers import Numbers
 from new_enemy_tools.importing.refusals import Refusals
+from new_enemy_tools.importing.sequence_numbers import Numbers
 from new_enemy_tools.importing.service import Log, ServiceRules
 from new_enemy_tools.importing.spool import Lines
 from new_enemy_tools.importing.writing import Piece, Written
-from new_enemy_tools.parting.faults import PartsFault
+from new_enemy_tools.parting.part_faults import PartsFault
 from new_enemy_tools.pieces import LEAST_BYTES, PiecesWriter
 from new_enemy_tools.progress import Progress
 from new_enemy_tools.shown import tell
@@ -217,19 +217,14 @@ def run(words: list[str], before: Optional[Before] = None) -> Imported:
     """An import; of a day what is known of those before it is given. Raises DeviceFault."""
     parser, given = given_of(words)
     base = base_at(parser, given)
-    is_on = gc.isenabled()
-    # Rows make no circles, and there are many of them to look through.
-    gc.disable()
     try:
-        return imported(given, base, before)
+        with held_off():
+            return imported(given, base, before)
     except PartsFault as fault:
         raise DeviceFault(str(fault)) from None
     except OSError as fault:
         raise DeviceFault("cannot %s: %s" % ("use %s" % fault.filename if fault.filename else "keep lines in a temporary file",
                                              fault.strerror)) from None
-    finally:
-        if is_on:
-            gc.enable()
 
 
 def goes_on_of(given: Namespace, service: str, before: Optional[Before]) -> Optional[GoesOn]:

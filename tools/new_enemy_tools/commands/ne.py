@@ -11,7 +11,7 @@ class Command(NamedTuple):
     """The module of a command within the package, and what it does."""
 
     module: str
-    told: str
+    does: str
 
 
 COMMANDS = {
@@ -34,7 +34,7 @@ COMMANDS = {
 
 
 def parser() -> Parser:
-    listed = "\n".join("  %-14s %s" % (name, command.told) for name, command in COMMANDS.items())
+    listed = "\n".join("  %-14s %s" % (name, command.does) for name, command in COMMANDS.items())
     made = Parser(prog="ne", usage="ne [-h] COMMAND ...", description="The tools around the auditor.\n\ncommands:\n%s" % listed,
                   epilog="`ne COMMAND --help` says what a command takes.")
     made.add_argument("--version", action="version", version="new_enemy tools " + VERSION, help="print the version and exit")

@@ -18,9 +18,9 @@ from new_enemy_tools.commands.running import Parser
 from new_enemy_tools.files import read_bytes
 from new_enemy_tools.parting.blocks import Source
 from new_enemy_tools.parting.cutting import Cut
-from new_enemy_tools.parting.faults import PartsFault
 from new_enemy_tools.parting.manifest import MOST_PARTS, read_manifest
 from new_enemy_tools.parting.merging import Answer, answer_of
+from new_enemy_tools.parting.part_faults import PartsFault
 from new_enemy_tools.parting.part_runs import run_all, run_parts
 from new_enemy_tools.parting.reports import read_part_report
 from new_enemy_tools.pieces import PiecesReader, pieces_of

@@ -8,7 +8,6 @@ The status is 0 where it was written, whatever was found; 1 by --fail-on; 6 wher
 the sum says; 2 where a file is refused, and then nothing is written.
 """
 import argparse
-import gc
 import sys
 from collections import Counter
 from datetime import date
@@ -16,6 +15,7 @@ from typing import Callable, Iterable, Iterator, NamedTuple, Optional
 
 from new_enemy_tools.audited import read_audited
 from new_enemy_tools.baseline import read_baseline
+from new_enemy_tools.collecting import held_off
 from new_enemy_tools.commands.running import Parser, add_allowing
 from new_enemy_tools.coverage import coverage_in
 from new_enemy_tools.effects import EFFECTS
@@ -90,24 +90,24 @@ class Teller:
         self.data = b"" if self.day is not None else split_joined(read_joined(given.trace))[0]
         self.report: Optional[str] = None
 
-    def told(self) -> Rendered:
+    def rendered(self) -> Rendered:
         if self.day is not None:
-            return self._told(self.day.trace())
+            return self._rendered(self.day.trace())
         if self.given.form != "html":
             try:
-                return self._told(read_audited(self.data))
+                return self._rendered(read_audited(self.data))
             except (OtherForm, ToolFault):
                 # Read in full, the trace may be at fault, and not what does not go with it.
                 pass
-        return self._told(read_trace_of(self.data, self.progress))
+        return self._rendered(read_trace_of(self.data, self.progress))
 
-    def _told(self, trace: Trace) -> Rendered:
+    def _rendered(self, trace: Trace) -> Rendered:
         given = self.given
         ids = read_ids(given.ids, trace)
         out = left_out(given.ignore, given.baseline, ids is not None)
         step = self.progress.steps("looked at %s findings")
         if self.day is not None:
-            report, coverage, labels = self.day.told()
+            report, coverage, labels = self.day.report()
             # The trace has content checks of the days before too.
             told = told_of(trace, report._replace(entries=len(trace.entries)), step)
         else:
@@ -119,13 +119,10 @@ class Teller:
         return Rendered(telling, warnings_of(telling, out), [] if given.form == "html" else list(form_of(given.form)(telling)))
 
 
-def told_quickly(given: argparse.Namespace, progress: Progress) -> Rendered:
-    """What is read is kept to the end, and looking for garbage in it takes a fifth of the time."""
-    gc.disable()
-    try:
-        return Teller(given, progress).told()
-    finally:
-        gc.enable()
+def rendered_quickly(given: argparse.Namespace, progress: Progress) -> Rendered:
+    """What is read is kept to the end."""
+    with held_off():
+        return Teller(given, progress).rendered()
 
 
 def write(lines: Iterable[str], out: Optional[str]) -> None:
@@ -156,13 +153,13 @@ def main(words: list[str]) -> int:
     if (given.report is None) != (kept_day(given.trace) is not None):
         parser.error("REPORT is missing" if given.report is None else "the folder of a day has its report: leave out REPORT")
     with Progress() as progress:
-        told = told_quickly(given, progress)
+        rendered = rendered_quickly(given, progress)
         progress.end()
-        for line in told.warnings:
+        for line in rendered.warnings:
             tell(line, sys.stderr)
         if given.form == "html":
-            write_html(parser, told.telling, given.out, progress)
+            write_html(parser, rendered.telling, given.out, progress)
         else:
-            write(told.lines, given.out)
-    worst = min((one.effect.rank for one in told.telling.told), default=len(EFFECTS))
-    return 1 if given.fail_on is not None and worst <= EFFECTS.index(given.fail_on) else told.telling.status(given.allow_unaudited)
+            write(rendered.lines, given.out)
+    worst = min((one.effect.rank for one in rendered.telling.told), default=len(EFFECTS))
+    return 1 if given.fail_on is not None and worst <= EFFECTS.index(given.fail_on) else rendered.telling.status(given.allow_unaudited)

@@ -11,24 +11,24 @@ The status is 0 where nothing was found, 1 where something was, 6 where nothing 
 a file is refused; a fault of usage has 3, out of memory 4, and a file that cannot be read or written 5. A state is written where the
 status is 0, 1 or 6.
 """
-import gc
 import os
 import sys
 from argparse import ArgumentParser, Namespace
 from typing import Iterable
 
 from new_enemy_tools import limits, strictjson
+from new_enemy_tools.collecting import held_off
 from new_enemy_tools.commands.running import Parser, add_allowing, add_program
-from new_enemy_tools.parting.faults import PartsFault
 from new_enemy_tools.parting.manifest import MOST_PARTS
+from new_enemy_tools.parting.part_faults import PartsFault
 from new_enemy_tools.progress import Progress
 from new_enemy_tools.shown import plain, tell
 from new_enemy_tools.windowing.audited_window import Audited, Refused, audited, parts_needed, read_own, records_of, refuse_bad, state_before, write_next
 from new_enemy_tools.windowing.auditing import How
 from new_enemy_tools.windowing.carrying import Keep, carried
-from new_enemy_tools.windowing.faults import WindowFault
 from new_enemy_tools.windowing.state import read_state
 from new_enemy_tools.windowing.window_bytes import Own, lines_of, with_strata
+from new_enemy_tools.windowing.window_faults import WindowFault
 
 
 def add_keeping(parser: ArgumentParser) -> None:
@@ -93,13 +93,13 @@ def audit_command(given: Namespace, progress: Progress) -> int:
     if given.out is not None:
         write_next(given.out, found.window, found.carry)
     progress.end()
-    write(found.told.lines(places(found, own).__getitem__) if given.where else found.told.lines())
-    return found.told.status(given.allow_unaudited)
+    write(found.report.lines(places(found, own).__getitem__) if given.where else found.report.lines())
+    return found.report.status(given.allow_unaudited)
 
 
 def places(found: Audited, own: Own) -> dict[int, str]:
     """What is told of where each line that is told comes from."""
-    lines = {one.line for one in found.told.findings} | {*found.told.not_audited, *found.told.in_part}
+    lines = {one.line for one in found.report.findings} | {*found.report.not_audited, *found.report.in_part}
     raws = lines_of(own, found.window.old, lines)
     said = {line: strictjson.object_of(raw).get("from") for line, raw in raws.items()}
     return {line: " (%s)" % plain(source) if isinstance(source, str) else "" for line, source in said.items()}
@@ -130,23 +130,25 @@ def write(lines: Iterable[str]) -> None:
         sys.stdout.write(line + "\n")
 
 
+FAULTS = (Refused, WindowFault, PartsFault, OSError)
+
+
+def status_of(command: str, fault: Exception) -> int:
+    """Tells one of the faults of audits in windows; its status."""
+    if isinstance(fault, Refused):
+        sys.stderr.write(fault.answer.error)
+        return fault.answer.status
+    said = [fault.filename, fault.strerror] if isinstance(fault, OSError) else [fault]
+    tell("%s: %s" % (command, ": ".join(str(part) for part in said if part)), sys.stderr)
+    return 5 if isinstance(fault, OSError) else 2
+
+
 def main(words: list[str]) -> int:
     given = given_of(words)
-    # Rows make no circles, and there may be many of them to look through.
-    gc.disable()
     try:
-        with Progress() as progress:
+        with held_off(), Progress() as progress:
             if given.command == "audit":
                 return audit_command(given, progress)
             return state_command(given, progress) if given.command == "state" else show_command(given.state)
-    except Refused as fault:
-        sys.stderr.write(fault.answer.error)
-        return fault.answer.status
-    except (WindowFault, PartsFault) as fault:
-        tell("window: %s" % fault, sys.stderr)
-        return 2
-    except OSError as fault:
-        tell("window: %s" % ": ".join(str(said) for said in (fault.filename, fault.strerror) if said), sys.stderr)
-        return 5
-    finally:
-        gc.enable()
+    except FAULTS as fault:
+        return status_of("window", fault)

@@ -8,7 +8,7 @@ from itertools import islice
 from typing import Callable, Iterable, Iterator, NamedTuple, Optional, Union
 
 from new_enemy_tools.importing.located import BLANK, Block, Place, Source, line_value
-from new_enemy_tools.importing.printed import ANSWERED, FINISHED, REQUEST, RESPONSE, Joining, Step, call_of, steps_of
+from new_enemy_tools.importing.printed import FINISHED, REQUEST, RESPONSE, Joining, Step, UnderWay, call_of, steps_of
 from new_enemy_tools.importing.refusals import Refusals
 from new_enemy_tools.importing.spool import Read
 from new_enemy_tools.parting.sharing import shared
@@ -91,12 +91,8 @@ def step_in(line: bytes) -> Optional[Step]:
     return kind, found.decode("utf-8", "replace"), kind == 1 and b'stream"' in line and STREAM.search(line) is not None
 
 
-class Carrying:
+class Carrying(UnderWay[tuple[bytes, int]]):
     """What the lines so far leave to those behind."""
-
-    def __init__(self) -> None:
-        self.waiting: dict[str, tuple[bytes, int]] = {}
-        self.answered: dict[str, None] = {}
 
     def carried(self, blocks: Iterable[tuple[Place, Block]]) -> Iterator[Carried]:
         for place, block in blocks:
@@ -112,14 +108,9 @@ class Carrying:
         if kind == 0:
             self.waiting[found] = line.strip(BLANK), number
         elif kind == 2:
-            self.waiting.pop(found, None)
-            self.answered.pop(found, None)
+            self.end(found)
         elif found in self.waiting:
-            self.answered[found] = None
-            if len(self.answered) > ANSWERED:
-                del self.answered[next(iter(self.answered))]
-            if not is_stream:
-                del self.waiting[found]
+            self.answer(found, is_stream)
 
     def left(self) -> list[tuple[int, Optional[str]]]:
         """The lines of requests that no line answered, and their calls."""

@@ -11,21 +11,21 @@ from typing import Any, Callable, Iterable, Iterator, NamedTuple, Optional, Unio
 from new_enemy_tools.edges import Name, Pair, pair_of
 from new_enemy_tools.ids import Ids
 from new_enemy_tools.importing import causes, going_on
-from new_enemy_tools.importing.ahead import Ahead
 from new_enemy_tools.importing.between import STATES, Asked, Spans
 from new_enemy_tools.importing.commits import Commit, Writer
 from new_enemy_tools.importing.declared import Declared
 from new_enemy_tools.importing.doubts import Circles, Doubts
 from new_enemy_tools.importing.events import Entry, Event
+from new_enemy_tools.importing.first_pass import Taken
 from new_enemy_tools.importing.going_on import Left
 from new_enemy_tools.importing.newest import put_newest
 from new_enemy_tools.importing.order import in_order, is_before_base
 from new_enemy_tools.importing.packed import Kept, Packed
+from new_enemy_tools.importing.prefetching import Ahead
 from new_enemy_tools.importing.refusals import Refusals
-from new_enemy_tools.importing.shown import Shown
 from new_enemy_tools.importing.spool import BATCH, CHECKS, Facts, Lines
 from new_enemy_tools.importing.strata import Edges, choose, open_circles
-from new_enemy_tools.importing.taken import Taken
+from new_enemy_tools.importing.trace_texts import Shown
 from new_enemy_tools.importing.wildcards import Wildcards
 from new_enemy_tools.importing.writing import Counts, Piece, Written
 from new_enemy_tools.parting.sharing import shared
@@ -317,7 +317,7 @@ class Core:
         entry = Entry._make(row)
         cause = doubts.cause(Userset(*entry.goal[:3]), entry.snapshot if entry.lowest is None else entry.lowest, entry.snapshot)
         if cause is not None:
-            self.refusals.unmapped_check(entry, cause, entry.told)
+            self.refusals.unmapped_check(entry, cause, entry.question)
             if entry.kind == "content" and entry.version is not None:
                 self.taken.issued.pop((entry.goal[0], entry.goal[1], entry.version), None)
             return None

@@ -88,7 +88,7 @@ class Entry(NamedTuple):
     named: Optional[str] = None
 
     @property
-    def told(self) -> str:
+    def question(self) -> str:
         return str(Relationship(*self.goal))
 
 

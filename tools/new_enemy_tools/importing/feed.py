@@ -5,10 +5,10 @@ from functools import cached_property
 from itertools import accumulate, starmap
 from typing import Any, Callable, Iterable, Iterator, NamedTuple, Optional, Union, cast
 
-from new_enemy_tools.importing.called import Unshown
 from new_enemy_tools.importing.causes import NO_ONE_SNAPSHOT, OTHER_MODEL
 from new_enemy_tools.importing.checks import Row
 from new_enemy_tools.importing.events import Entry, Event, Relationship, is_whole
+from new_enemy_tools.importing.keyed_hash import short
 from new_enemy_tools.importing.models import BEFORE, Given, Models, OtherModel, TwoModels
 from new_enemy_tools.importing.order import ordered
 from new_enemy_tools.importing.packed import Index, Moments, Odd, Packed, Stood, stood_of
@@ -16,9 +16,9 @@ from new_enemy_tools.importing.pages import read_again
 from new_enemy_tools.importing.reading import Bad
 from new_enemy_tools.importing.refusals import Refusals
 from new_enemy_tools.importing.service import WITHOUT_CONDITION
-from new_enemy_tools.importing.short import short
 from new_enemy_tools.importing.spool import CHECKS, Lines, WriteRow, row_of
 from new_enemy_tools.importing.times import nanoseconds
+from new_enemy_tools.importing.write_calls import Unshown
 
 NOT_TAKEN = "tuple that the model does not take"
 # The places of so many moments are known at once; and so many tuples that are stored, behind which none is looked at any more.
@@ -149,7 +149,7 @@ class Placing:
             goal = (*entry.goal[:2], name, *entry.goal[3:])
             return entry._replace(goal=goal, snapshot=snapshot, lowest=lowest, token=token, asked=None)
         except OtherModel:
-            self.refusals.unmapped_check(entry, OTHER_MODEL, entry.told)
+            self.refusals.unmapped_check(entry, OTHER_MODEL, entry.question)
         except TwoModels as fault:
             self.refusals.refuse(entry.file, entry.line, str(fault))
         except Bad as fault:

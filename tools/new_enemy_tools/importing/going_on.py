@@ -16,10 +16,10 @@ from new_enemy_tools.ids import Ids
 from new_enemy_tools.importing.between import States
 from new_enemy_tools.importing.declared import Declared
 from new_enemy_tools.importing.events import Event, RelationRule
+from new_enemy_tools.importing.first_pass import Taken
 from new_enemy_tools.importing.refusals import Refusals
 from new_enemy_tools.importing.spool import Facts, Lines
 from new_enemy_tools.importing.strata import Edges, Reason
-from new_enemy_tools.importing.taken import Taken
 from new_enemy_tools.rules import places
 from new_enemy_tools.texts import Tuple, Userset, parse_tuple
 from new_enemy_tools.windowing.replacing import touched_by

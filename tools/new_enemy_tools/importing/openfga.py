@@ -6,25 +6,25 @@ from typing import Any, Iterator, Optional
 
 from new_enemy_tools.importing import located, openfga_dsl, printed
 from new_enemy_tools.importing.block import When
-from new_enemy_tools.importing.called import unshown, without_calls
 from new_enemy_tools.importing.checks import Look
 from new_enemy_tools.importing.events import EVERY, Event, Line, Relationship, RelationRule, Stamp, put_stamp
 from new_enemy_tools.importing.feed import Moment, asked_of, moment_of, placed, shown_of
+from new_enemy_tools.importing.keyed_hash import short
 from new_enemy_tools.importing.located import List, line_at, line_of
 from new_enemy_tools.importing.models import Given, said_by
 from new_enemy_tools.importing.openfga_answers import answers_of, relationship_of
-from new_enemy_tools.importing.pages import Page, refuse_missing
 from new_enemy_tools.importing.packed import Indexer
+from new_enemy_tools.importing.pages import Page, refuse_missing
 from new_enemy_tools.importing.reading import Bad, get, spelled
 from new_enemy_tools.importing.refusals import Refusals
 from new_enemy_tools.importing.service import (Answer, Log, Looked, ServiceRules, Users, demand_of, nested, one_of, refuse_wild_tuplesets,
                                                text_or_none, tuplesets_of)
 from new_enemy_tools.importing.shapes import (ID, LABEL, NULL, PART, REPLY, REST, STAMP, TEXT, TIME, USER_RELATION, WHOLE, Field, Form, Said, field,
                                               form, needed)
-from new_enemy_tools.importing.short import short
-from new_enemy_tools.importing.simple_yaml import beside, is_yaml, read_yaml
+from new_enemy_tools.importing.yaml_files import beside, is_yaml, read_yaml
 from new_enemy_tools.importing.spool import CALL, Lines
 from new_enemy_tools.importing.times import nanoseconds
+from new_enemy_tools.importing.write_calls import unshown, without_calls
 
 SCHEMAS = ("1.1", "1.2")
 # By names and numbers; what JSON of protobuf leaves out is the first.

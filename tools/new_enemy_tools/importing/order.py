@@ -22,7 +22,7 @@ class Placed(Generic[Some]):
     def __init__(self, line: Some):
         self.line, self.is_out = line, False
 
-    def kept(self) -> tuple[Some, ...]:
+    def lines_left(self) -> tuple[Some, ...]:
         return () if self.is_out else (self.line,)
 
 
@@ -105,7 +105,7 @@ def _apart(events: Iterable[Some], skew: int, refusals: Refusals) -> Iterator[So
     near: deque[Placed[Some]] = deque()
     for event in events:
         while near and _time(event) - _time(near[0].line) > skew:
-            yield from near.popleft().kept()
+            yield from near.popleft().lines_left()
         placed = Placed(event)
         for other in reversed(near):
             before = other.line
@@ -119,7 +119,7 @@ def _apart(events: Iterable[Some], skew: int, refusals: Refusals) -> Iterator[So
                 out.is_out = True
         near.append(placed)
     for placed in near:
-        yield from placed.kept()
+        yield from placed.lines_left()
 
 
 def _leave_out(event: Line, cause: str, told: str, refusals: Refusals, at: Optional[Line] = None) -> None:

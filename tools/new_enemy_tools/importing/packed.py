@@ -11,7 +11,7 @@ from typing import Any, Callable, Collection, Iterable, Iterator, Mapping, Named
 from new_enemy_tools.edges import Name
 from new_enemy_tools.ids import Ids
 from new_enemy_tools.importing.checks import NAMES, NEWEST, Checks, Other, Row, column
-from new_enemy_tools.importing.short import short
+from new_enemy_tools.importing.keyed_hash import short
 
 # So many tuples fit on a line of a trace, whatever their names.
 FEW = 1_000
@@ -123,7 +123,7 @@ class Packed(NamedTuple):
     def _numbers(self, checks: Checks) -> Optional[Numbers]:
         return numbers_of(checks, {one.place for one in self.head.odd}, self.places)
 
-    def kept(self, rows: list[tuple[int, int, Row]]) -> bytes:
+    def packed_with(self, rows: list[tuple[int, int, Row]]) -> bytes:
         """The block as it is kept: these rows in place of those that were taken by themselves."""
         return marshal.dumps((self.data, [odd.place for odd in self.head.odd], rows, self.first, self.places))
 
@@ -396,16 +396,16 @@ class Kept:
     many checks stand before it."""
 
     def __init__(self, data: bytes, odd: list[int], rows: list[tuple[int, int, Row]], first: Optional[int], places: Optional[list[int]]):
-        checks, self.odd, self.kept, self.first = Checks(*marshal.loads(data)), set(odd), rows, first
+        checks, self.odd, self.alone, self.first = Checks(*marshal.loads(data)), set(odd), rows, first
         self.numbers = numbers_of(checks, self.odd, places)
         self.others, self.checks = checks.others, numbered(checks, self.numbers)
 
     def among(self, is_end: Callable[[int], bool], commit_of: Callable[[list[Row]], Row]) -> Iterator[tuple[int, Row]]:
         """The rows among the checks, each with the number of checks before it; plain writes as commits, which end at some revisions."""
-        kept, given, writes, open_rows = self.kept, 0, 0, list[Row]()
+        alone, given, writes, open_rows = self.alone, 0, 0, list[Row]()
         for place, (at, _, row) in enumerate(self.others):
-            while given < len(kept) and kept[given][0] <= place:
-                yield kept[given][1:]
+            while given < len(alone) and alone[given][0] <= place:
+                yield alone[given][1:]
                 given += 1
             is_write = row[0] == "write" and not row[5]
             if row[0] != NAMES and place not in self.odd:
@@ -418,7 +418,7 @@ class Kept:
                         yield at, commit_of(open_rows)
                         open_rows = []
             writes += is_write
-        yield from (one[1:] for one in kept[given:])
+        yield from (one[1:] for one in alone[given:])
 
     def rows(self, is_end: Callable[[int], bool], commit_of: Callable[[list[Row]], Row]) -> Iterator[Row]:
         """All lines as rows, in order."""

@@ -26,7 +26,7 @@ class Pairing:
         # the requests that were not read, each with its number, and whether it stands in a block before
         self.asked = {found: (line, number, True) for found, (line, number) in given.waiting.items()}
         # the request and the line of the response that were given as one text, until it is known whether they are read in full
-        self.told: Optional[tuple[str, bytes]] = None
+        self.joined: Optional[tuple[str, bytes]] = None
 
     def lines(self, lines: Iterable[tuple[int, bytes]]) -> Iterator[tuple[int, bytes]]:
         for number, raw in lines:
@@ -42,11 +42,11 @@ class Pairing:
                     raise Otherwise
                 self.asked[found] = line, number, False
             elif kind == 1 and not is_stream and found in self.asked:
-                self.told = found, line
+                self.joined = found, line
                 yield number, b'{"asked":%s,"told":%s}' % (self.asked[found][0], line)
-                if self.told is not None:
+                if self.joined is not None:
                     # Nobody read it in full.
-                    self.told = None
+                    self.joined = None
                     del self.asked[found]
                     self.joining.answer(found)
             else:
@@ -63,8 +63,8 @@ class Pairing:
 
     def full(self, number: int, line: bytes) -> list[Line]:
         """What a text has that was given; raises Otherwise."""
-        if self.told is not None:
-            (found, line), self.told = self.told, None
+        if self.joined is not None:
+            (found, line), self.joined = self.joined, None
             self._read_asked(found)
         return self._read(number, line)
 

@@ -6,7 +6,7 @@ their public sources.
 import re
 from datetime import datetime, timezone
 from itertools import chain
-from typing import Any, Iterable, Iterator, NamedTuple, Optional
+from typing import Any, Generic, Iterable, Iterator, NamedTuple, Optional, TypeVar
 
 from new_enemy_tools.importing.reading import Bad, get
 from new_enemy_tools.importing.times import nanoseconds
@@ -32,6 +32,8 @@ FINE = set(ADDED)
 MOST_FINE = 1 << 12
 # So many calls that were answered are known until a line says that they ended.
 ANSWERED = 10_000
+# What is kept of a request that waits.
+Asked = TypeVar("Asked")
 
 
 def unwrapped(value: Any, keys: Iterable[str]) -> Any:
@@ -194,14 +196,35 @@ def call_of(value: Any) -> Optional[str]:
     return call if isinstance(call, str) else None
 
 
-class Joining:
-    """Requests that wait for their responses, by their ids: as many as are under way at once."""
+class UnderWay(Generic[Asked]):
+    """Calls that wait for their responses, by their ids: as many as are under way at once; and those that were answered."""
 
     def __init__(self) -> None:
-        self.waiting: dict[str, Waiting] = {}
+        self.waiting: dict[str, Asked] = {}
+        self.answered: dict[str, None] = {}
+
+    def answer(self, found: str, is_stream: bool = False) -> None:
+        """Notes that a call was answered, whose request waits on where more responses may come."""
+        self.answered[found] = None
+        if len(self.answered) > ANSWERED:
+            del self.answered[next(iter(self.answered))]
+        if not is_stream and found in self.waiting:
+            del self.waiting[found]
+
+    def end(self, found: str) -> None:
+        """Notes that a call that was answered ended well."""
+        if found in self.waiting:
+            del self.waiting[found]
+        self.answered.pop(found, None)
+
+
+class Joining(UnderWay[Waiting]):
+    """Requests that are joined with their responses."""
+
+    def __init__(self) -> None:
+        super().__init__()
         # those whose id others had meanwhile, which clients may choose: of these it is not known which response is whose
         self.several: dict[str, list[Waiting]] = {}
-        self.answered: dict[str, None] = {}
         # what the lines did, where that is noted
         self.steps: Optional[list[Step]] = None
 
@@ -235,19 +258,6 @@ class Joining:
         given = {key: value[key] for key in keys if key in value and key not in ("time", "error", "method")}
         given |= both(added, added_in(given), "the lines of the request and of the response")
         return _filled({**told, "request": request, "response": plain_of(value[RESPONSE]), **given})
-
-    def answer(self, found: str, is_stream: bool = False) -> None:
-        """Notes that a call was answered, whose request waits on where more responses may come."""
-        self.answered[found] = None
-        if len(self.answered) > ANSWERED:
-            del self.answered[next(iter(self.answered))]
-        if not is_stream:
-            self.waiting.pop(found, None)
-
-    def end(self, found: str) -> None:
-        """Notes that a call that was answered ended well."""
-        self.waiting.pop(found, None)
-        self.answered.pop(found, None)
 
     def wait(self, found: str, value: dict[str, Any], line: int) -> None:
         """Keeps the request of a line."""

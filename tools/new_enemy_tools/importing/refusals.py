@@ -4,8 +4,8 @@ from collections import Counter
 from typing import TYPE_CHECKING, Iterator, NamedTuple, Optional
 
 from new_enemy_tools.coverage import Coverage, counted
-from new_enemy_tools.importing.numbers import Numbers
 from new_enemy_tools.importing.pages import Page
+from new_enemy_tools.importing.sequence_numbers import Numbers
 
 if TYPE_CHECKING:
     from new_enemy_tools.importing.events import Entry, Relationship

@@ -5,7 +5,6 @@ from typing import Any, Callable, Iterable, Iterator, Mapping, NamedTuple, Optio
 from new_enemy_tools import limits
 from new_enemy_tools.importing import causes, located, passing, printed
 from new_enemy_tools.importing.block import Reader, Usual, When
-from new_enemy_tools.importing.called import with_calls
 from new_enemy_tools.importing.carried import Blocks, Carried, Otherwise, has_steps
 from new_enemy_tools.importing.checks import NEWEST, Look, Row
 from new_enemy_tools.importing.events import (EVERY, STAMP, Entry, Event, Line, Relationship, Stamp, newest_of, note_number,
@@ -16,6 +15,7 @@ from new_enemy_tools.importing.reading import Bad, get
 from new_enemy_tools.importing.refusals import Refusals
 from new_enemy_tools.importing.shapes import Form, Said
 from new_enemy_tools.importing.spool import Lines, Read
+from new_enemy_tools.importing.write_calls import with_calls
 from new_enemy_tools.keys import near, unread
 from new_enemy_tools.rules import places
 
@@ -418,7 +418,7 @@ class Log:
             entry = Entry("check" if content is None else "content", path, line, answer.goal, answer.reply, snapshot, shown, token, version,
                           None, newest, asked, sequence_of(stamp, place), stamp.time, stamp.clock)
             if answer.unmapped:
-                self.refusals.unmapped_check(entry, answer.unmapped, MANY if answer is UNREAD else entry.told)
+                self.refusals.unmapped_check(entry, answer.unmapped, MANY if answer is UNREAD else entry.question)
             else:
                 yield entry
 

@@ -14,7 +14,7 @@ from new_enemy_tools.importing.reading import Bad, get
 from new_enemy_tools.importing.refusals import Refusals
 from new_enemy_tools.importing.service import Answer, Log, Looked, ServiceRules, demand_of, one_of, text_or_none
 from new_enemy_tools.importing.shapes import GOAL, ID, LABEL, NULL, TEXT, TIME, USER_RELATION, Field, Form, Said, field, form, needed
-from new_enemy_tools.importing.simple_yaml import is_yaml, read_yaml
+from new_enemy_tools.importing.yaml_files import is_yaml, read_yaml
 from new_enemy_tools.importing.spicedb_answers import answers_of, relationship_of, revision_at, revision_in
 from new_enemy_tools.importing.spicedb_schema import Parser
 from new_enemy_tools.importing.spool import CALL, Lines, plain

@@ -7,7 +7,7 @@ from new_enemy_tools.importing import located
 from new_enemy_tools.importing.events import EVERY, Event, RelationRule
 from new_enemy_tools.importing.refusals import Refusals
 from new_enemy_tools.importing.service import ServiceRules, nested, refuse_wild_tuplesets
-from new_enemy_tools.importing.simple_yaml import beside, is_yaml, read_yaml
+from new_enemy_tools.importing.yaml_files import beside, is_yaml, read_yaml
 from new_enemy_tools.rules import children_of, form_of
 
 TOKEN = re.compile(r"(?P<space>[ \t\r\n]+|//[^\n]*|/\*.*?\*/)|(?P<word>[A-Za-z_][A-Za-z0-9_]*(?:/[A-Za-z_][A-Za-z0-9_]*)*)"

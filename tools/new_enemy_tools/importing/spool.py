@@ -7,8 +7,8 @@ from typing import IO, Iterable, Iterator, NamedTuple, Optional, Union
 from new_enemy_tools.ids import Ids
 from new_enemy_tools.importing.checks import NEWEST, Other, Row
 from new_enemy_tools.importing.events import EVERY, Entry, Event, Line, Relationship
-from new_enemy_tools.importing.numbers import Numbers
 from new_enemy_tools.importing.packed import Packed, packed_of
+from new_enemy_tools.importing.sequence_numbers import Numbers
 
 BATCH = 1 << 12
 CHECKS = ("check", "content")

@@ -19,9 +19,9 @@ from new_enemy_tools.importing.going_on import Left, Named, numbered
 from new_enemy_tools.importing.located import Block
 from new_enemy_tools.importing.neutral import Events
 from new_enemy_tools.importing.refusals import Refusals
-from new_enemy_tools.importing.shown import Shown
 from new_enemy_tools.importing.spool import Lines, Spool
 from new_enemy_tools.importing.strata import Reason, choose
+from new_enemy_tools.importing.trace_texts import Shown
 from new_enemy_tools.importing.wildcards import Wildcards
 from new_enemy_tools.importing.writing import Counts, Written
 from new_enemy_tools.monitoring.faults import MonitorFault

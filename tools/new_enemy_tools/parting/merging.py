@@ -4,7 +4,7 @@ import re
 from typing import Iterable, Iterator, NamedTuple
 
 from new_enemy_tools.findings import ReportFault, read_report
-from new_enemy_tools.parting.faults import PartsFault
+from new_enemy_tools.parting.part_faults import PartsFault
 from new_enemy_tools.parting.reports import PartReport
 
 FAULT = re.compile(r"(?:(trace|evidence) line ([1-9][0-9]*): .+|joined input refused|out of memory|read fault"

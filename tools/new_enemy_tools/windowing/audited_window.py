@@ -12,11 +12,11 @@ from new_enemy_tools.parting.merging import Answer
 from new_enemy_tools.trace_lines import is_imported
 from new_enemy_tools.windowing.auditing import FileFeeder, How, Running, answer_in_parts
 from new_enemy_tools.windowing.carrying import Carry, Keep, Window, carried
-from new_enemy_tools.windowing.faults import WindowFault
 from new_enemy_tools.windowing.following import Following
 from new_enemy_tools.windowing.records import Records
 from new_enemy_tools.windowing.state import EMPTY, Row, State, read_head, read_state, write_state
 from new_enemy_tools.windowing.window_bytes import Numbers, Own, carried_lines, read_window, sizes, with_strata
+from new_enemy_tools.windowing.window_faults import WindowFault
 from new_enemy_tools.windowing.window_report import WindowReport, refused, window_report_of
 
 Step = Callable[[int], None]
@@ -39,7 +39,7 @@ class OwnCounts(NamedTuple):
 
 
 class Audited(NamedTuple):
-    told: WindowReport
+    report: WindowReport
     window: Window
     carry: Carry
     carried: list[Row]
@@ -61,7 +61,7 @@ class Audited(NamedTuple):
         found = coverage_of(lines, marks if said is None else [said], is_ours and lines.checks > 0 and not own.start)
         waiting = [lines_in(b"\n".join([row.raw for row in rows if row.kind == "h"])) for rows in (self.carried, self.carry.rows)]
         lines = lines.plus(waiting[0]).plus(waiting[1], -1)
-        return self._replace(told=self.told.covered(found._replace(checks=lines.checks, in_part=dict(lines.in_part))))
+        return self._replace(report=self.report.covered(found._replace(checks=lines.checks, in_part=dict(lines.in_part))))
 
 
 def state_before(path: Optional[str]) -> State:
@@ -164,7 +164,7 @@ def _answer_by(evidence: str, own: Own, window: Window, lines: list[Row], number
             answer = answer_in_parts(how, lines, own, file.name, step)
         else:
             answer = Running(how, file.name, partial(FileFeeder, lines, own)).answer()
-    return records.kept, len(records.first), answer
+    return records.held_records, len(records.first), answer
 
 
 def _refuse(answer: Answer, window: Window, numbers: Numbers, records: int) -> None:

@@ -15,9 +15,9 @@ from new_enemy_tools.parting.manifest import evidence_path
 from new_enemy_tools.parting.merging import Answer, answer_of
 from new_enemy_tools.parting.part_runs import run_all
 from new_enemy_tools.parting.reports import read_part_report
-from new_enemy_tools.windowing.faults import WindowFault
 from new_enemy_tools.windowing.state import Row
 from new_enemy_tools.windowing.window_bytes import Joined, Own
+from new_enemy_tools.windowing.window_faults import WindowFault
 
 PIECE = 1 << 20
 WORKERS = 16

@@ -5,10 +5,10 @@ from operator import attrgetter
 from typing import NamedTuple, Optional
 
 from new_enemy_tools import strictjson
-from new_enemy_tools.windowing.faults import WindowFault
 from new_enemy_tools.windowing.replacing import Replaced
 from new_enemy_tools.windowing.scanning import Found, Scanned
 from new_enemy_tools.windowing.state import Head, Row, State
+from new_enemy_tools.windowing.window_faults import WindowFault
 
 # A window that was read before is known among so many.
 RECENT = 31
@@ -182,6 +182,6 @@ def version_of(raw: bytes) -> tuple[object, object]:
 
 def _head(window: Window, carrying: _Carrying, base: Optional[int], has_dropped: bool) -> Head:
     old, log = window.old.head, window.log
-    return Head(window.number, window.lines, log.size, log.text, log.kept, window.old.sum, base, window.last,
+    return Head(window.number, window.lines, log.size, log.text, log.fields, window.old.sum, base, window.last,
                 old.is_begun or bool(window.entries or carrying.times), has_dropped, carrying.ends,
                 (old.recent + [window.digest.hexdigest()])[-RECENT:])

@@ -12,8 +12,8 @@ from hashlib import blake2b
 from typing import Any, BinaryIO, Iterator, NamedTuple, Optional, Sequence
 
 from new_enemy_tools.labels import Labels
-from new_enemy_tools.windowing.faults import WindowFault
 from new_enemy_tools.windowing.state import Head, read_sum
+from new_enemy_tools.windowing.window_faults import WindowFault
 
 WORK = "work"
 INDEX, PAGE = "index.html", "report.html"

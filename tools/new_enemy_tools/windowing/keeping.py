@@ -78,7 +78,7 @@ class KeptDay:
         trace.table = next((mark for mark in map(ids_in, raws[len(carried):len(carried) + 1]) if mark is not None), None)
         return trace
 
-    def told(self) -> DayReport:
+    def report(self) -> DayReport:
         """What its report says; raises NotKept."""
         try:
             with open(os.path.join(self.folder, "report.txt"), encoding="utf-8") as file:

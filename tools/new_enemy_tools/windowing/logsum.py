@@ -26,10 +26,10 @@ class LogSum:
         return blake2b(self._chained + self._pending, digest_size=32).hexdigest()
 
     @property
-    def kept(self) -> list[str]:
+    def fields(self) -> list[str]:
         """What a state keeps of it."""
         return [self._chained.hex(), base64.b64encode(self._pending).decode()]
 
 
-def kept_sum(kept: list[str], size: int) -> LogSum:
-    return LogSum(bytes.fromhex(kept[0]), base64.b64decode(kept[1], validate=True), size)
+def sum_of_fields(fields: list[str], size: int) -> LogSum:
+    return LogSum(bytes.fromhex(fields[0]), base64.b64decode(fields[1], validate=True), size)

@@ -1,5 +1,4 @@
 """Evidence for a window: records that name lines of the log, and those of entries that were held over."""
-import json
 from typing import BinaryIO, Iterator, Optional
 
 from new_enemy_tools import limits, strictjson
@@ -16,7 +15,7 @@ def _renamed(raw: bytes, line: int, given: int) -> bytes:
     start = RECORD_START + b"%d," % line
     if raw.startswith(start) and raw.count(b'"line"') == 1 and b"\\" not in raw:
         return RECORD_START + b"%d," % given + raw[len(start):]
-    return json.dumps({**strictjson.object_of(raw), "line": given}, ensure_ascii=False, separators=(",", ":")).encode()
+    return strictjson.encode({**strictjson.object_of(raw), "line": given}).encode()
 
 
 def _line_named(raw: bytes) -> Optional[int]:
@@ -34,7 +33,7 @@ class Records:
         self.numbers = numbers
         self.first = [row for row in rows if row.kind == "e"]
         self.held = held
-        self.kept = {row.line: row.raw for row in self.first if row.line in held}
+        self.held_records = {row.line: row.raw for row in self.first if row.line in held}
 
     def lines(self, file: BinaryIO) -> Iterator[bytes]:
         """The records by the lines of the window; first those that were kept."""
@@ -51,7 +50,7 @@ class Records:
         if line is None:
             return raw
         if line in self.held:
-            self.kept[line] = raw
+            self.held_records[line] = raw
         within = self.numbers.within(line)
         # What names another window's line is as stray as what names none.
         return _renamed(raw, line, limits.NUMBER if within is None else within)

@@ -19,8 +19,8 @@ from io import BytesIO
 from typing import Iterable, Iterator, NamedTuple, Optional
 
 from new_enemy_tools.files import read_bytes
-from new_enemy_tools.windowing.faults import WindowFault
-from new_enemy_tools.windowing.logsum import LogSum, kept_sum
+from new_enemy_tools.windowing.logsum import LogSum, sum_of_fields
+from new_enemy_tools.windowing.window_faults import WindowFault
 
 FORMAT = 1
 KINDS = "rfcvhe"
@@ -58,10 +58,10 @@ class Head(NamedTuple):
     recent: list[str]
 
     def sum(self) -> LogSum:
-        return kept_sum(self.going_on, self.bytes)
+        return sum_of_fields(self.going_on, self.bytes)
 
 
-EMPTY = Head(0, 0, 0, LogSum().text, LogSum().kept, None, None, -1, False, False, [], [])
+EMPTY = Head(0, 0, 0, LogSum().text, LogSum().fields, None, None, -1, False, False, [], [])
 
 
 class State(NamedTuple):

@@ -1,5 +1,4 @@
 """The bytes of a window: the lines that a state carries, and behind them the window's own."""
-import json
 import os
 from functools import partial
 from typing import BinaryIO, Callable, Iterable, Iterator, Optional
@@ -9,10 +8,10 @@ from new_enemy_tools.parting.blocks import Blocks
 from new_enemy_tools.parting.sharing import shared
 from new_enemy_tools.pieces import START
 from new_enemy_tools.windowing.carrying import Window
-from new_enemy_tools.windowing.faults import WindowFault
 from new_enemy_tools.windowing.logsum import LogSum
 from new_enemy_tools.windowing.scanning import Scanned, scan
 from new_enemy_tools.windowing.state import Row, State
+from new_enemy_tools.windowing.window_faults import WindowFault
 
 PIECE = 1 << 20
 
@@ -76,7 +75,7 @@ def with_strata(old: State, strata: dict[tuple[str, str], int]) -> State:
 def _restratified(row: Row, strata: dict[tuple[str, str], int]) -> Row:
     value = strictjson.object_of(row.raw)
     relations = [{**one, "stratum": strata.get((value["name"], one["name"]), one.get("stratum") or 0)} for one in value["relations"]]
-    return row._replace(raw=json.dumps({**value, "relations": relations}, ensure_ascii=False, separators=(",", ":")).encode())
+    return row._replace(raw=strictjson.encode({**value, "relations": relations}).encode())
 
 
 def _stamp(file: BinaryIO) -> tuple[int, int]:

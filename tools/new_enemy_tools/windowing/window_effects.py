@@ -46,7 +46,7 @@ class Lines(NamedTuple):
 def lines_for(found: Audited, own: Own, has_stories: bool = False) -> Lines:
     """Of a window that was audited. It keeps the entries that have findings and, where commits tell something of these, or for stories, the
     store, the commits and the versions."""
-    carried, window, findings = found.carried, found.window, found.told.findings
+    carried, window, findings = found.carried, found.window, found.report.findings
     wanted = sorted(lines_of(own, window.old, {one.line for one in findings}).items())
     rules = _lines(carried, "r", window.rules)
     if not has_stories and not any(one.finding in ON_TOKENS or one.finding == "F10" for one in findings):
@@ -80,7 +80,7 @@ class Texts(NamedTuple):
 
 def texts_of(found: Audited, own: Own, ids: Optional[Ids]) -> Texts:
     """Nothing where nothing was found."""
-    if not found.told.findings:
+    if not found.report.findings:
         return Texts([], [])
     lines = lines_for(found, own)
     try:
@@ -95,7 +95,7 @@ def telling_in_full(found: Audited, own: Own, ids: Optional[Ids]) -> Telling:
 
 
 def _telling(trace: Trace, found: Audited, own: Own, ids: Optional[Ids]) -> Telling:
-    told = found.told
+    told = found.report
     report = Report(told.findings, len(trace.entries), told.verdict)
     telling = telling_of(told_of(trace, report), trace, Names(ids), own.path, report, labels_at(found, own), told.coverage)
     return telling._replace(report=report._replace(entries=told.entries))

@@ -8,8 +8,8 @@ from new_enemy_tools.findings import Finding, read_report
 from new_enemy_tools.importing import causes
 from new_enemy_tools.parting.merging import Answer
 from new_enemy_tools.windowing.carrying import Carry, Window
-from new_enemy_tools.windowing.faults import WindowFault
 from new_enemy_tools.windowing.window_bytes import Numbers
+from new_enemy_tools.windowing.window_faults import WindowFault
 
 REFUSED = re.compile(r"(trace|evidence) line ([1-9][0-9]*): (.+)\n")
 

@@ -6,12 +6,12 @@ from unittest import mock
 
 from new_enemy_tools.audited import read_audited
 from new_enemy_tools.meaning import Settled
-from new_enemy_tools.token_order import Window
-from new_enemy_tools.trace_lines import OtherForm
+from new_enemy_tools.quick_reach import UNTOUCHED, Look
 from new_enemy_tools.reach import Reach
-from new_enemy_tools.sight import UNTOUCHED, Look
 from new_enemy_tools.texts import Tuple, parse_tuple
+from new_enemy_tools.token_order import Window
 from new_enemy_tools.trace import Trace, read_trace
+from new_enemy_tools.trace_lines import OtherForm
 from tests.support import Case
 from tests.test_audited import OldSnapshots, imported
 
@@ -42,7 +42,7 @@ class Looks(Case):
     def test_random_goals(self) -> None:
         for patched in ({"FEW": 1_000}, {"SHORT": 0}, {"SEARCHES": 0, "NEAR": 60}, {"SEARCHES": 2, "NEAR": 0}):
             seen: Counter[object] = Counter()
-            with mock.patch.multiple("new_enemy_tools.sight", **patched):
+            with mock.patch.multiple("new_enemy_tools.quick_reach", **patched):
                 for number in range(25):
                     random = Random("sight %d" % number)
                     data = imported(OldSnapshots(random, 60).values)
@@ -91,7 +91,7 @@ class Looks(Case):
         stored = ["doc:%d#asked@doc:%d#asked" % (number, later) for number in range(12) for later in range(number + 1, 12)]
         values = [declared(viewer=THIS, asked=rewrite), *commits([*stored, *["doc:%d#viewer@1" % number for number in range(12)]], ["doc:11#asked@1"])]
         self.assertEqual(self.look(values, "doc:0#asked@1", 1, 2), Look(True, True))
-        with mock.patch("new_enemy_tools.sight.STEPS", 5):
+        with mock.patch("new_enemy_tools.quick_reach.STEPS", 5):
             self.assertIsNone(self.look(values, "doc:0#asked@1", 1, 2))
 
     def test_rules_that_are_no_unions_many_behind_one_another(self) -> None:
@@ -116,7 +116,7 @@ class Looks(Case):
                 values = [declared(viewer=THIS), *commits(["doc:a#viewer@2", *members], ["doc:x#viewer@1"], ["doc:a#viewer@3"])]
                 values[2][key] = text
                 for patched in ({"SEARCHES": 40}, {"SEARCHES": 0, "NEAR": 0}, {"SHORT": 0}):
-                    with mock.patch.multiple("new_enemy_tools.sight", **patched):
+                    with mock.patch.multiple("new_enemy_tools.quick_reach", **patched):
                         self.assertEqual(self.look(values, "doc:a#viewer@1", 1, 3), UNTOUCHED)
                         self.assertEqual(self.look(values, "doc:a#viewer@2", 0, 3), Look(True, True))
                         self.assertEqual(self.look(values, "doc:a#viewer@3", 1, 2), UNTOUCHED)

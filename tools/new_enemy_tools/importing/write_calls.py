@@ -8,9 +8,9 @@ from typing import Callable, Iterator, NamedTuple, Optional, Union
 
 from new_enemy_tools.importing.checks import Row, column
 from new_enemy_tools.importing.events import Event
+from new_enemy_tools.importing.keyed_hash import short
 from new_enemy_tools.importing.packed import Indexer, Packed
 from new_enemy_tools.importing.refusals import Refusals
-from new_enemy_tools.importing.short import short
 from new_enemy_tools.importing.spool import CALL, CHECKS, Lines, WriteRow, found_in, row_of
 
 ORDER = "%s:%d: a check saw this write before the line of its call: each such write is put before what saw it, and none is called F4"

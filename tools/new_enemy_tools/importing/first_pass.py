@@ -96,7 +96,7 @@ class Taken:
         entry = Entry._make(row)
         if self.missing is None or entry.sequence is not None and entry.sequence[0] < self.missing:
             return False
-        self.refusals.unmapped_check(entry, causes.LINE_MISSING, entry.told)
+        self.refusals.unmapped_check(entry, causes.LINE_MISSING, entry.question)
         return True
 
     def _close(self) -> None:
@@ -128,7 +128,7 @@ class Taken:
         if behind != (index.rows, index.checks):
             self._close()
         self.count += index.lines - len(index.odd)
-        self.items.add_batch(block.kept(self.among))
+        self.items.add_batch(block.packed_with(self.among))
         self.among = None
 
     def _is_plain(self, index: Index) -> bool:
@@ -217,7 +217,7 @@ class Taken:
         """Gives what an entry names its numbers and gathers its revisions; the entry as it is kept, if it is."""
         kind, _, _, goal, _, snapshot, shown, token, version, lowest = row[:10]
         if not self._is_declared(goal[0], goal[2]):
-            self.refusals.unmapped_check(Entry._make(row), causes.UNKNOWN_RELATION, Entry._make(row).told)
+            self.refusals.unmapped_check(Entry._make(row), causes.UNKNOWN_RELATION, Entry._make(row).question)
             return None
         if self.base_revision is not None and (snapshot if lowest is None else lowest) < self.base_revision:
             self.refusals.unmapped_check(Entry._make(row), causes.BEFORE_BASE, "its snapshot is %s" % shown)

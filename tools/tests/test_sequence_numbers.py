@@ -3,7 +3,7 @@ import json
 import xml.etree.ElementTree
 
 from new_enemy_tools.importing import causes
-from new_enemy_tools.importing.numbers import Numbers
+from new_enemy_tools.importing.sequence_numbers import Numbers
 from tests.test_core import RULES, check, content, rel, write
 from tests.test_printed_blocks import PrintedCase
 from tests.test_unaudited import CONTEXTUAL, Unaudited
