@@ -193,7 +193,9 @@ fn oldest<'a>(alloc: Global) -> Arg<'a>
         .long("oldest-snapshot")
         .value_name("T")
         .value_parser(value_parser!(u64))
-        .help("The carry keeps the store at the last commit up to this timestamp, and what came behind it")
+        .help(
+            "The carry keeps the store at the last commit up to this timestamp, and what came behind it",
+        )
 }
 
 fn follow<'a>(alloc: Global, oldest: Arg<'a>) -> Result<Command<'a>, AllocError>
@@ -232,7 +234,7 @@ fn bare<'a>(alloc: Global) -> Result<Command<'a>, AllocError>
     let program = Command::new(alloc, "new_enemy").bin_name("new_enemy")?;
     Ok(
         program
-            .version("0.2.0 (logic dac8208d650f15bf)")
+            .version("0.3.0 (logic dac8208d650f15bf)")
             .about(
                 "Audits recorded authorization decisions for ignored access changes and wrong replies",
             )

@@ -13,7 +13,6 @@ use Rattle.follow.specs.Handing.{RunEnds, RunWentOut}
 use Rattle.follow.specs.Running.{Run}
 use Rattle.follow.specs.declared.carried.CarryRefusal.{CarryRefusal}
 use Rattle.follow.specs.declared.carried.CarryRefusal.TheVariants as refusal
-use Rattle.follow.specs.declared.carried.RunFault.{RunFault}
 use Rattle.follow.specs.declared.carried.RunFault.TheVariants as fault
 use Rattle.follow.specs.declared.handing.RunEnd.{RunEnd}
 

@@ -1,6 +1,6 @@
 -- What a run says that begins with a carry, or hands one on, from what its call answered.
-use Rattle.std.proofs.Common.{◌≡◌, ◌≢◌, ◌⊎◌, inl, inr, ℕ, ◌+◌, ◌<◌, ◌≤◌, true, List, [], ◌∷◌, ◌++◌, Option, Some, None, Result, Ok, Err, codes, refl, sym, ap, subst, ◌∙◌, arith, length}
-use Rattle.std.specs.Prelude.{IfErr, IfOk, OnOk, option_map}
+use Rattle.std.proofs.Common.{◌≡◌, ◌≢◌, ◌⊎◌, inl, inr, ℕ, ◌+◌, ◌<◌, ◌≤◌, true, List, [], ◌∷◌, Option, Some, None, Result, Ok, Err, codes, refl, sym, ap, subst, ◌∙◌, arith, length}
+use Rattle.std.specs.Prelude.{IfErr}
 use Rattle.std.proofs.lemmas.Bool.{true≢false}
 use Rattle.devices.specs.Devices.{moved_by, failures_of, stops_of}
 use Rattle.devices.specs.Given as given
@@ -9,14 +9,12 @@ use Rattle.devices.proofs.Given.{of_input-map, of_input-whole, of_whole-map}
 use Rattle.json_lines.specs.declared.lines.TheConstants.{CHUNK}
 use Rattle.json_lines.specs.declared.reading.TheConstants.{MAX_INPUT}
 use Rattle.trace_lines.specs.Results.{FailsBy}
-use Rattle.trace_lines.specs.declared.cause.Cause.TheVariants as causes
 use Rattle.trace_lines.specs.declared.cause.TraceFault.{TraceFault}
 use Rattle.audit.specs.Devices.{Reader, Reading, Writer, Writing, GivesFew, StandsBehind, WriterFailed, WriterNeverFailed, reads}
 use Rattle.audit.specs.Kinds.{IsOneOf}
 use Rattle.audit.specs.Kinds as kind
 use Rattle.audit.specs.declared.plain.AuditFault.{AuditFault}
 use Rattle.audit.specs.declared.plain.AuditFault.TheVariants as faults
-use Rattle.audit.specs.declared.plain.Verdict.TheVariants.{Clean, Dirty}
 use Rattle.audit.proofs.KindLemmas.{never_answered}
 use Rattle.audit.proofs.Readers.{behind_at_rest, few_at_rest}
 use Rattle.runs.specs.Kept.{KeptValue, log_behind, nothing_kept}
@@ -29,11 +27,11 @@ use Rattle.follow.specs.declared.carried.RunFault.TheVariants as fault
 use Rattle.follow.specs.declared.handing.RunEnd.{RunEnd}
 use Rattle.new_enemy.specs.Carrying.{HandsOn, IsHanded, IsHandedOn, IsNoRun, IsStatusOfRefusal, RunsOn, status_of_end}
 use Rattle.new_enemy.specs.Files.{OfFiles, failures_from, failures_to}
-use Rattle.new_enemy.specs.Opened.{IsUnused, file_of, path_of}
+use Rattle.new_enemy.specs.Opened.{IsUnused, file_of}
 use Rattle.new_enemy.specs.Outcomes.{is_opened}
 use Rattle.new_enemy.specs.Run.{IsStatus, OfEveryInput}
 use Rattle.new_enemy.specs.Runs.{RunsFiles}
-use Rattle.new_enemy.specs.Words.{IsHandedTo, RanOn}
+use Rattle.new_enemy.specs.Words.{IsHandedTo}
 use Rattle.new_enemy.specs.declared.carrying.Handed.{Handed}
 use Rattle.new_enemy.specs.declared.carrying.Handed.TheVariants as handed
 use Rattle.new_enemy.specs.declared.opened.Opened.{Opened}
@@ -69,110 +67,110 @@ handed_to None (Err (fault.Run f)) s to h = subst (IsHandedTo None s) (sym h.0) 
 
 module _ {F : Type 0} (from : Option (Opened F)) (x : Opened F) (out : Writing) (s : ℕ) (to : Handed F)
     (most : OfFiles (ran.WentOn x from to) (λ file. length (moved_by file) ≤ MAX_INPUT + CHUNK)) (held : StandsBehind out)
-    where
-  -- ---- the run ended
+  where
+    -- ---- the run ended
 
-  module _ (end : RunEnd) (ran_on : RunsOn from x out.before.taken out.after.taken end)
-      (unfailed : failures_of (file_of x) + failures_from from ≡ 0) (sent : WriterNeverFailed out) where
-    -- and its carry went to its file whole, or none was asked for
-    ended_well : IsHanded end to → failures_to to ≡ 0 → s ≡ status_of_end end.verdict end.unaudited
+    module _ (end : RunEnd) (ran_on : RunsOn from x out.before.taken out.after.taken end)
+        (unfailed : failures_of (file_of x) + failures_from from ≡ 0) (sent : WriterNeverFailed out) where
+      -- and its carry went to its file whole, or none was asked for
+      ended_well : IsHanded end to → failures_to to ≡ 0 → s ≡ status_of_end end.verdict end.unaudited
+          → RunsFiles (codes "follow") out s (ran.WentOn x from to)
+      ended_well whole none is = record {
+        command = refl;
+        clean = λ zero. let c = clean_end end.verdict end.unaudited s is zero in (end, ran_on, c.0, c.1, whole);
+        dirty = λ one. (end, ran_on, dirty_end end.verdict end.unaudited s is one, tt, whole);
+        refused = λ two. no_fault_is end.verdict end.unaudited s is (omega (arith, two)) (omega (arith, two));
+        used = λ three. no_fault_is end.verdict end.unaudited s is (omega (arith, three)) (omega (arith, three));
+        left_out = λ six. let l = left_end end.verdict end.unaudited s is six in (end, ran_on, l.0, l.1, whole);
+        devices = record {
+          flushed = λ one not. absurd (true≢false not);
+          device = λ five _. no_fault_is end.verdict end.unaudited s is (omega (arith, five)) (omega (arith, five));
+          kept = λ other. (omega (arith, unfailed, none), sent);
+          unwritten = λ two four not. absurd (true≢false not);
+          most = most;
+          held = held;
+        };
+        statuses = elim (no_fault end.verdict end.unaudited s is) [
+          | inl few ↦ omega (arith, few)
+          | inr six ↦ omega (arith, six)
+        ];
+      }
+
+      -- or it could not be handed on
+      ended_badly : (s ≡ 2) × (end.carry ≡ None) × (to ≡ handed.Nothing) ⊎ (s ≡ 5) × ((to ≡ handed.NotMade) ⊎ (0 < failures_to to))
+          → RunsFiles (codes "follow") out s (ran.WentOn x from to)
+      ended_badly (inl h) = record {
+        command = refl;
+        clean = λ zero. absurd (omega (arith, zero, h.0));
+        dirty = λ one. absurd (omega (arith, one, h.0));
+        refused = λ two. inr (out.before.taken, out.after.taken, end, ran_on, h.1);
+        used = λ three. absurd (omega (arith, three, h.0));
+        left_out = λ six. absurd (omega (arith, six, h.0));
+        devices = record {
+          flushed = λ one not. absurd (true≢false not);
+          device = λ five _. absurd (omega (arith, five, h.0));
+          kept = λ other. (omega (arith, unfailed, ap failures_to h.2), sent);
+          unwritten = λ two four not. absurd (true≢false not);
+          most = most;
+          held = held;
+        };
+        statuses = omega (arith, h.0);
+      }
+      ended_badly (inr h) = record {
+        command = refl;
+        clean = λ zero. absurd (omega (arith, zero, h.0));
+        dirty = λ one. absurd (omega (arith, one, h.0));
+        refused = λ two. absurd (omega (arith, two, h.0));
+        used = λ three. absurd (omega (arith, three, h.0));
+        left_out = λ six. absurd (omega (arith, six, h.0));
+        devices = record {
+          flushed = λ one not. absurd (true≢false not);
+          device = λ five opened. inl (by_file h.1 opened);
+          kept = λ other. absurd (other h.0);
+          unwritten = λ two four not. absurd (true≢false not);
+          most = most;
+          held = held;
+        };
+        statuses = omega (arith, h.0);
+      }
+        where
+          by_file : (to ≡ handed.NotMade) ⊎ (0 < failures_to to) → is_opened (ran.WentOn x from to) ≡ true
+              → 0 < (failures_of (file_of x) + failures_from from) + failures_to to
+          by_file (inl is) opened = absurd (true≢false (sym opened ∙ ap (λ (h : Handed F). is_opened (ran.WentOn x from h)) is))
+          by_file (inr failed) opened = omega (arith, failed)
+
+      run_ended : (path : Option (List ℕ)) → IsHandedOn path (Ok end) s to → RunsFiles (codes "follow") out s (ran.WentOn x from to)
+      run_ended None h = ended_well (subst (IsHanded end) (sym h.0) tt) (ap failures_to h.0) h.1
+      run_ended (Some path) h = elim (hands_on path end s to h) [
+        | inl well ↦ ended_well well.0 well.1 well.2
+        | inr badly ↦ ended_badly badly
+      ]
+
+    -- ---- or it was stopped
+    stopped_run : 2 ≤ s → s ≤ 5 → s ≢ 3 → to ≡ handed.Nothing → (s ≡ 2 → IsNoRun from x)
+        → (s ≡ 5 → (0 < failures_of (file_of x) + failures_from from) ⊎ WriterFailed out)
+        → (s ≢ 5 → (failures_of (file_of x) + failures_from from ≡ 0) × WriterNeverFailed out)
         → RunsFiles (codes "follow") out s (ran.WentOn x from to)
-    ended_well whole none is = record {
+    stopped_run two five other none refused failed kept = record {
       command = refl;
-      clean = λ zero. let c = clean_end end.verdict end.unaudited s is zero in (end, ran_on, c.0, c.1, whole);
-      dirty = λ one. (end, ran_on, dirty_end end.verdict end.unaudited s is one, tt, whole);
-      refused = λ two. no_fault_is end.verdict end.unaudited s is (omega (arith, two)) (omega (arith, two));
-      used = λ three. no_fault_is end.verdict end.unaudited s is (omega (arith, three)) (omega (arith, three));
-      left_out = λ six. let l = left_end end.verdict end.unaudited s is six in (end, ran_on, l.0, l.1, whole);
+      clean = λ zero. absurd (omega (arith, zero, two));
+      dirty = λ one. absurd (omega (arith, one, two));
+      refused = λ is. inl (refused is);
+      used = λ three. absurd (other three);
+      left_out = λ six. absurd (omega (arith, six, five));
       devices = record {
         flushed = λ one not. absurd (true≢false not);
-        device = λ five _. no_fault_is end.verdict end.unaudited s is (omega (arith, five)) (omega (arith, five));
-        kept = λ other. (omega (arith, unfailed, none), sent);
-        unwritten = λ two four not. absurd (true≢false not);
+        device = λ is _. elim (failed is) [
+          | inl file ↦ inl (omega (arith, file))
+          | inr writer ↦ inr writer
+        ];
+        kept = λ no. let never = kept no in (omega (arith, never.0, ap failures_to none), never.1);
+        unwritten = λ least most not. absurd (true≢false not);
         most = most;
         held = held;
       };
-      statuses = elim (no_fault end.verdict end.unaudited s is) [
-        | inl few ↦ omega (arith, few)
-        | inr six ↦ omega (arith, six)
-      ];
+      statuses = omega (arith, five);
     }
-
-    -- or it could not be handed on
-    ended_badly : (s ≡ 2) × (end.carry ≡ None) × (to ≡ handed.Nothing) ⊎ (s ≡ 5) × ((to ≡ handed.NotMade) ⊎ (0 < failures_to to))
-        → RunsFiles (codes "follow") out s (ran.WentOn x from to)
-    ended_badly (inl h) = record {
-      command = refl;
-      clean = λ zero. absurd (omega (arith, zero, h.0));
-      dirty = λ one. absurd (omega (arith, one, h.0));
-      refused = λ two. inr (out.before.taken, out.after.taken, end, ran_on, h.1);
-      used = λ three. absurd (omega (arith, three, h.0));
-      left_out = λ six. absurd (omega (arith, six, h.0));
-      devices = record {
-        flushed = λ one not. absurd (true≢false not);
-        device = λ five _. absurd (omega (arith, five, h.0));
-        kept = λ other. (omega (arith, unfailed, ap failures_to h.2), sent);
-        unwritten = λ two four not. absurd (true≢false not);
-        most = most;
-        held = held;
-      };
-      statuses = omega (arith, h.0);
-    }
-    ended_badly (inr h) = record {
-      command = refl;
-      clean = λ zero. absurd (omega (arith, zero, h.0));
-      dirty = λ one. absurd (omega (arith, one, h.0));
-      refused = λ two. absurd (omega (arith, two, h.0));
-      used = λ three. absurd (omega (arith, three, h.0));
-      left_out = λ six. absurd (omega (arith, six, h.0));
-      devices = record {
-        flushed = λ one not. absurd (true≢false not);
-        device = λ five opened. inl (by_file h.1 opened);
-        kept = λ other. absurd (other h.0);
-        unwritten = λ two four not. absurd (true≢false not);
-        most = most;
-        held = held;
-      };
-      statuses = omega (arith, h.0);
-    }
-      where
-        by_file : (to ≡ handed.NotMade) ⊎ (0 < failures_to to) → is_opened (ran.WentOn x from to) ≡ true
-            → 0 < (failures_of (file_of x) + failures_from from) + failures_to to
-        by_file (inl is) opened = absurd (true≢false (sym opened ∙ ap (λ (h : Handed F). is_opened (ran.WentOn x from h)) is))
-        by_file (inr failed) opened = omega (arith, failed)
-
-    run_ended : (path : Option (List ℕ)) → IsHandedOn path (Ok end) s to → RunsFiles (codes "follow") out s (ran.WentOn x from to)
-    run_ended None h = ended_well (subst (IsHanded end) (sym h.0) tt) (ap failures_to h.0) h.1
-    run_ended (Some path) h = elim (hands_on path end s to h) [
-      | inl well ↦ ended_well well.0 well.1 well.2
-      | inr badly ↦ ended_badly badly
-    ]
-
-  -- ---- or it was stopped
-  stopped_run : 2 ≤ s → s ≤ 5 → s ≢ 3 → to ≡ handed.Nothing → (s ≡ 2 → IsNoRun from x)
-      → (s ≡ 5 → (0 < failures_of (file_of x) + failures_from from) ⊎ WriterFailed out)
-      → (s ≢ 5 → (failures_of (file_of x) + failures_from from ≡ 0) × WriterNeverFailed out)
-      → RunsFiles (codes "follow") out s (ran.WentOn x from to)
-  stopped_run two five other none refused failed kept = record {
-    command = refl;
-    clean = λ zero. absurd (omega (arith, zero, two));
-    dirty = λ one. absurd (omega (arith, one, two));
-    refused = λ is. inl (refused is);
-    used = λ three. absurd (other three);
-    left_out = λ six. absurd (omega (arith, six, five));
-    devices = record {
-      flushed = λ one not. absurd (true≢false not);
-      device = λ is _. elim (failed is) [
-        | inl file ↦ inl (omega (arith, file))
-        | inr writer ↦ inr writer
-      ];
-      kept = λ no. let never = kept no in (omega (arith, never.0, ap failures_to none), never.1);
-      unwritten = λ least most not. absurd (true≢false not);
-      most = most;
-      held = held;
-    };
-    statuses = omega (arith, five);
-  }
 
 -- ---- from what the call answered
 

@@ -1,7 +1,6 @@
 -- What a run of a command says, from what its call answered.
 use Rattle.std.proofs.Common.{◌≡◌, ◌≢◌, ℕ, ◌+◌, ◌≤◌, List, [], ◌∷◌, ◌++◌, Option, Some, Result, Ok, Err, codes, refl, sym, ap, subst, ◌∙◌, arith}
 use Rattle.std.specs.Prelude.{IfErr, OnOk}
-use Rattle.trace_lines.specs.Values.{TraceValue}
 use Rattle.devices.specs.Devices.{moved_by, failures_of, stops_of}
 use Rattle.devices.specs.Given as given
 use Rattle.devices.specs.declared.counted.Counted.{Counted}
@@ -17,7 +16,6 @@ use Rattle.audit.specs.declared.plain.AuditFault.{AuditFault}
 use Rattle.audit.specs.declared.plain.AuditFault.TheVariants as faults
 use Rattle.audit.proofs.KindLemmas.{kinds-more, never_answered}
 use Rattle.findings.specs.EachEntry.{TellsOfEachEntry}
-use Rattle.findings.specs.declared.finding.Finding.{Finding}
 use Rattle.findings.specs.Headline.{IsTraceRightAndFresh}
 use Rattle.findings.specs.WrongReplies.{NamesOnlyWrongReplies}
 use Rattle.follow.specs.Following.{Followed, Follows}

@@ -1,5 +1,5 @@
 -- What a run says, from what its command does.
-use Rattle.std.proofs.Common.{◌≡◌, ◌≢◌, ◌⊎◌, inl, inr, ℕ, ◌+◌, ◌<◌, ◌≤◌, true, List, [], ◌∷◌, Option, Some, None, codes, refl, sym, subst, map, ◌∙◌, arith, Bool, Bor, option_map, false, Global}
+use Rattle.std.proofs.Common.{◌≡◌, ◌⊎◌, inl, inr, ℕ, ◌+◌, ◌<◌, ◌≤◌, true, List, [], ◌∷◌, Option, Some, None, codes, refl, sym, subst, map, ◌∙◌, arith, false, Global}
 use Rattle.std.specs.Prelude.{IfSome, slice_get, String, string_bytes, ◌++◌}
 use Rattle.std.proofs.lemmas.Bool.{true≢false}
 use Rattle.audit.specs.Devices.{Reader, Reading, Writer, Writing, ReaderFailed, WriterFailed, WriterNeverFailed, StandsBehind}
@@ -8,7 +8,7 @@ use Rattle.command_line.specs.Asked.{AreTaken, AskForHelp, Asked, IsAskedBy, Wri
 use Rattle.command_line.specs.Asked as asked
 use Rattle.new_enemy.specs.Outcomes.{HasSucceeded, HasFoundDirty, HasRefused}
 use Rattle.new_enemy.specs.Runs.{RunsJoined, RunsFiles, SaysOfRun}
-use Rattle.new_enemy.specs.Words.{HasRead, is_shown, IsAsked, IsOfCommand, RanAsked, RanAudit, RanAuditAlone}
+use Rattle.new_enemy.specs.Words.{HasRead, is_shown, IsAsked, IsOfCommand, RanAsked}
 use Rattle.new_enemy.specs.declared.run.Done.{Done}
 use Rattle.new_enemy.specs.declared.run.Ran.{Ran}
 use Rattle.new_enemy.specs.declared.run.Ran.TheVariants as ran

@@ -2,7 +2,6 @@
 use Rattle.std.specs.Prelude.{◌≡◌, ◌⊎◌, ◌==◌, ℕ, ◌+◌, ◌<◌, ◌≤◌, List, Option, Some, None, Result, Ok, Err, String, string_bytes, if◌then◌else◌, ⊤}
 use Rattle.std.specs.declared.alloc.Global.{Global}
 use Rattle.devices.specs.Devices.{moved_by, failures_of, stops_of}
-use Rattle.devices.specs.declared.counted.Counted.{Counted}
 use Rattle.audit.specs.declared.plain.Verdict.{Verdict}
 use Rattle.audit.specs.declared.plain.Verdict.TheVariants.{Clean, Dirty}
 use Rattle.follow.specs.Carried.{RunsFirst, RunsFrom, SayNoFirstRun, SayNoRunFrom}

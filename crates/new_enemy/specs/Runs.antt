@@ -15,7 +15,6 @@ use Rattle.new_enemy.specs.Outcomes.{HasSucceeded, HasFoundDirty, HasLeftOut, Ha
 use Rattle.new_enemy.specs.Run.{IsRefused}
 use Rattle.new_enemy.specs.Words.{IsOfCommand}
 use Rattle.new_enemy.specs.declared.run.Ran.{Ran}
-use Rattle.new_enemy.specs.declared.run.Ran.TheVariants as ran
 
 -- the report on all of joined input went out, its verdict is clean, and the trace is right and fresh
 abbrev pub IsCleanJoined : Reading → Writing → Type 0

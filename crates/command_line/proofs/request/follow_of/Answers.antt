@@ -1,4 +1,4 @@
-use Rattle.std.proofs.Common.{◌≡◌, ◌∙◌, ap, sym, option_map, Option, Some}
+use Rattle.std.proofs.Common.{◌≡◌, ◌∙◌, ap, sym, option_map, Some}
 use Rattle.clap.specs.Words.{Text}
 use Rattle.command_line.specs.Asked.{follows}
 use Rattle.command_line.proofs.request.follow_of.Goals as goal

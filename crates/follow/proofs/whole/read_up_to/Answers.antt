@@ -1,4 +1,4 @@
-use Rattle.std.proofs.Common.{◌≡◌, ◌∙◌, ◌+◌, ◌++◌, ◌≤◌, ℕ, List, Ok, ap, append-nil, arith, length, refl, rules, sym}
+use Rattle.std.proofs.Common.{◌∙◌, ◌+◌, ℕ, Ok, ap, append-nil, arith, length, refl, rules, sym}
 use Rattle.json_lines.specs.declared.lines.TheConstants.{CHUNK}
 use Rattle.devices.proofs.Given.{next-refl, next-trans}
 use Rattle.follow.proofs.MoreBytes.{behind_bytes, came_at_most, more_bytes}

@@ -1,4 +1,4 @@
-use Rattle.std.proofs.Common.{◌≡◌, ◌∙◌, ◌++◌, inl, List, ℕ, ap}
+use Rattle.std.proofs.Common.{◌∙◌, ◌++◌, inl, List, ℕ, ap}
 use Rattle.new_enemy.proofs.carrying.hand_on_to.Goals as goal
 
 pub returns-in-Ok-send : goal.returns-in-Ok-send

@@ -22,4 +22,3 @@ returns-clause-runs g c =
     done.result.0 done.result.1 (Some c.args.carrying.path.now) run.result run.ensures.run run.ensures.kinds
     (subst (λ (a : Result RunEnd RunFault). IsHandedOn (Some c.args.carrying.path.now) a done.result.0 done.result.1) same
     done.ensures)
-
