@@ -1,5 +1,5 @@
 -- The end of a run that hands on.
-use Rattle.std.proofs.Common.{◌≡◌, inl, inr, ℕ, ◌+◌, List, [], ◌++◌, length, take, Result, Ok, Err, refl, sym, ◌∙◌, ap, subst, append_assoc, append-nil}
+use Rattle.std.proofs.Common.{is_some, ◌≡◌, inl, inr, ℕ, ◌+◌, List, [], ◌++◌, length, take, Result, Ok, Err, refl, sym, ◌∙◌, ap, subst, append_assoc, append-nil}
 use Rattle.std.proofs.Math.Seq.{take-append_seam, take-append-add}
 use Rattle.userset_index.specs.Index.{IndexValue}
 use Rattle.trace_lines.specs.Values.{TraceValue}
@@ -11,7 +11,7 @@ use Rattle.audit.specs.Parts.{Told}
 use Rattle.audit.specs.Audit.{Says}
 use Rattle.audit.specs.declared.plain.AuditFault.{AuditFault}
 use Rattle.audit.specs.declared.plain.AuditFault.TheVariants as faults
-use Rattle.follow.specs.Handing.{IsRunEnd, RunEnds, RunWentOut, run_lines, unaudited}
+use Rattle.follow.specs.Handing.{IsRunEnd, RunEnds, RunWentOut, is_whole, run_lines}
 use Rattle.follow.specs.Heartbeats.{AreTrue}
 use Rattle.follow.specs.Pieces.{text_of, told_in}
 use Rattle.follow.specs.Running.{GoesOnAs, Run}
@@ -79,9 +79,9 @@ module _ (k : KeptValue) (base : ℕ) (trace : Reading) (one two three : Writer)
   begun = length k.log.entries
 
   last : (text : List ℕ) (end : RunEnd) → IsRunEnd l.log f begun text end
-      → text ≡ run_lines base begun l.log (told_in lines.pieces)
-  last text end ends = ends.lines ∙ ap (λ (b : ℕ). run_lines b begun l.log f.told.items) low
-      ∙ ap (λ (fs : List Finding). run_lines base begun l.log fs) lines.same
+      → text ≡ run_lines end.whole base begun l.log (told_in lines.pieces)
+  last text end ends = ends.lines ∙ ap (λ (b : ℕ). run_lines end.whole b begun l.log f.told.items) low
+      ∙ ap (λ (fs : List Finding). run_lines end.whole base begun l.log fs) lines.same
 
   nothing_more : three.taken ≡ two.taken → RunWentOut k base came one.taken three.taken
   nothing_more same = record {
@@ -116,6 +116,7 @@ module _ (k : KeptValue) (base : ℕ) (trace : Reading) (one two three : Writer)
       record {
         trace = l.log;
         said = lines.said;
+        whole = end.whole;
         lines = last text end ends;
         verdict = ends.verdict ∙ ap verdict_of lines.same;
       },
@@ -144,7 +145,7 @@ module _ (k : KeptValue) (base : ℕ) (trace : Reading) (one two three : Writer)
                   ∙ append_assoc one.taken (text_of lines.pieces) text
                   ∙ ap (λ (t : List ℕ). one.taken ++ (text_of lines.pieces ++ t)) (last text end is);
               verdict = is.verdict ∙ ap verdict_of lines.same;
-              unaudited = is.unaudited ∙ ap (λ (b : ℕ). unaudited b begun l.log) low;
+              whole = is.whole ∙ ap (λ (b : ℕ). is_whole (is_some end.carry) b begun l.log) low;
               carry = is.carry;
             },
           ),

@@ -1,5 +1,5 @@
 -- What a run comes to that begins behind a log, and hands on.
-use Rattle.std.specs.Prelude.{◌≡◌, ◌==◌, ◌||◌, ◌-◌, ◌+◌, nat_lt, ℕ, true, List, [], ◌++◌, codes, drop, filter, length, IfSome, Ok, string_bytes, if◌then◌else◌}
+use Rattle.std.specs.Prelude.{◌≡◌, ◌==◌, ◌&&◌, ◌||◌, ◌-◌, ◌+◌, nat_lt, ℕ, Bool, true, is_some, List, [], ◌++◌, codes, drop, filter, length, IfSome, Ok, string_bytes, if◌then◌else◌}
 use Rattle.std.specs.List.{flat_map}
 use Rattle.trace_lines.specs.Values.{EntryValue, TraceValue}
 use Rattle.findings.specs.Report.{last_lines}
@@ -33,18 +33,22 @@ unaudited base begun t = length (filter (λ e. nat_lt e.snapshot base) (drop beg
 abbrev pub incomplete_lines : ℕ → List ℕ
 incomplete_lines entries = codes "entries " ++ number_text entries (codes "\nfindings 0\nverdict incomplete\n")
 
--- The last lines of a report on so many entries; where nothing was found, and not all was audited, it is not clean.
-abbrev pub run_report : ℕ → List Finding → ℕ → List ℕ
-run_report unaudited told entries =
-    if unaudited == 0 || nat_lt 0 (length told) then last_lines told entries else incomplete_lines entries
+-- all entries that came were audited, or are open and go on in the carry that is handed on
+abbrev pub is_whole : Bool → ℕ → ℕ → TraceValue → Bool
+is_whole handed base begun t = (unaudited base begun t == 0) && (handed || (length (open_entries t) == 0))
+
+-- The last lines of a report on so many entries; where nothing was found, and the run is not whole, it is not clean.
+abbrev pub run_report : Bool → List Finding → ℕ → List ℕ
+run_report whole told entries =
+    if whole || nat_lt 0 (length told) then last_lines told entries else incomplete_lines entries
 
 -- The last lines of a run: each entry that came and asks below the base, how many these are, how many entries of the log
 -- are open, and the last lines of a report on so many entries as came.
-abbrev pub run_lines : ℕ → ℕ → TraceValue → List Finding → List ℕ
-run_lines base begun t told = flat_map (unasked_line base) (drop begun t.entries)
+abbrev pub run_lines : Bool → ℕ → ℕ → TraceValue → List Finding → List ℕ
+run_lines whole base begun t told = flat_map (unasked_line base) (drop begun t.entries)
     ++ (codes "not audited " ++ (number_text (unaudited base begun t) (codes "\n")
     ++ (codes "open " ++ (number_text (length (open_entries t)) (codes "\n")
-    ++ run_report (unaudited base begun t) told (length t.entries - begun)))))
+    ++ run_report whole told (length t.entries - begun)))))
 
 -- the bytes are the text of a carry of a log
 abbrev pub IsCarryText : TraceValue → List ℕ → Type 0
@@ -52,9 +56,9 @@ IsCarryText t bytes = (c : CarryValue) × (bytes ≡ carry_text c) × IsCarryOf 
 
 -- how a run ends whose follower took all lines of a log
 pub record IsRunEnd (t : TraceValue) (f : Follower) (begun : ℕ) (text : List ℕ) (end : RunEnd) : Type 0 where
-  pub lines : text ≡ run_lines f.base begun t f.told.items
+  pub lines : text ≡ run_lines end.whole f.base begun t f.told.items
   pub verdict : end.verdict ≡ verdict_of f.told.items
-  pub unaudited : end.unaudited ≡ unaudited f.base begun t
+  pub whole : end.whole ≡ is_whole (is_some end.carry) f.base begun t
   pub carry : IfSome end.carry (λ s. IsCarryText t (string_bytes s))
 
 -- All of the bytes say a log behind the one that stands, and what its lines let tell was told, on entries that ask at
@@ -66,9 +70,9 @@ pub record RunEnds (k : KeptValue) (base : ℕ) (a old new : List ℕ) (end : Ru
   pub pieces : List Piece
   pub told : IsToldFrom (log_behind k) (k.lines + 1) base a (told_in pieces)
   pub beats : AreTrue trace pieces []
-  pub went : new ≡ old ++ (text_of pieces ++ run_lines base (length k.log.entries) trace (told_in pieces))
+  pub went : new ≡ old ++ (text_of pieces ++ run_lines end.whole base (length k.log.entries) trace (told_in pieces))
   pub verdict : end.verdict ≡ verdict_of (told_in pieces)
-  pub unaudited : end.unaudited ≡ unaudited base (length k.log.entries) trace
+  pub whole : end.whole ≡ is_whole (is_some end.carry) base (length k.log.entries) trace
   pub carry : IfSome end.carry (λ s. IsCarryText trace (string_bytes s))
 
 -- the last lines of a run went out, behind what was told
@@ -76,7 +80,8 @@ pub record EndsRun (k : KeptValue) (base : ℕ) (a : List ℕ) (pieces : List Pi
     : Type 0 where
   pub trace : TraceValue
   pub said : log_behind k true a ≡ Ok trace
-  pub lines : ending ≡ run_lines base (length k.log.entries) trace (told_in pieces)
+  pub whole : Bool
+  pub lines : ending ≡ run_lines whole base (length k.log.entries) trace (told_in pieces)
   pub verdict : v ≡ verdict_of (told_in pieces)
 
 -- some first bytes of such a text went out

@@ -1,6 +1,6 @@
 //! A run that begins behind a log, and hands on.
 
-ghost use Rattle.std.specs.Prelude.{◌≡◌, ◌≤◌, ◌+◌, ◌++◌, ◌∷◌, [], drop, length, IfErr, IfOk, IfSome, OnOk, string_bytes};
+ghost use Rattle.std.specs.Prelude.{◌==◌, ◌&&◌, ◌||◌, ◌≡◌, ◌≤◌, ◌+◌, ◌++◌, ◌∷◌, [], drop, length, IfErr, IfOk, IfSome, OnOk, string_bytes};
 ghost use Rattle.std.specs.List.{flat_map};
 ghost use Rattle.trace_lines.specs.Placed.{AreInPlace};
 ghost use Rattle.trace_lines.specs.Values.{TraceValue, next_line};
@@ -39,8 +39,8 @@ use userset_index::UsersetIndex;
 pub struct RunEnd {
     /// Whether anything was told.
     pub verdict: Verdict,
-    /// How many entries came that ask below the base, and were not audited.
-    pub unaudited: usize,
+    /// Whether each entry that came was audited, or waits for a commit and goes on in the carry.
+    pub whole: bool,
     /// The text of a carry, with which the next run begins. There is none where none was asked for, or the log has no
     /// base.
     pub carry: Option<String>,
@@ -95,6 +95,13 @@ fn count_unaudited(trace: &Trace, base: u64, begun: usize) -> usize
     count
 }
 
+/// Whether a run is whole in which so many entries were not audited, so many are open, and a carry is handed on.
+fn is_whole(unaudited: usize, waiting: usize, handed: bool) -> bool
+    ensures { result ≡ ((unaudited == 0) && (handed || (waiting == 0))) }
+{
+    unaudited == 0 && (handed || waiting == 0)
+}
+
 /// Appends words, a number, and words behind it.
 fn push_count(before: &str, number: u64, behind: &str, text: &mut String) -> Result<(), AllocError>
     ensures { OnOk result (string_bytes text.new
@@ -104,17 +111,17 @@ fn push_count(before: &str, number: u64, behind: &str, text: &mut String) -> Res
     push_number(number, behind, text)
 }
 
-/// Appends the last lines of a report; where nothing was found, and not all was audited, it is not clean.
+/// Appends the last lines of a report; where nothing was found, and the run is not whole, it is not clean.
 fn push_run_report(
     told: &[Finding],
-    unaudited: usize,
+    whole: bool,
     entries: usize,
     text: &mut String,
 ) -> Result<(), AllocError>
     ensures { OnOk result (string_bytes text.new
-        ≡ string_bytes text.old ++ run_report unaudited told.now entries) }
+        ≡ string_bytes text.old ++ run_report whole told.now entries) }
 {
-    if unaudited == 0 || !told.is_empty() {
+    if whole || !told.is_empty() {
         return push_last_lines(told, entries, text);
     }
     push_count(
@@ -131,20 +138,21 @@ fn run_text(
     trace: &Trace,
     begun: usize,
     unaudited: usize,
+    whole: bool,
 ) -> Result<String, AllocError>
     requires begun { begun ≤ length trace.now.entries }
     requires stands { Stands trace.now follower.now.monitor }
     requires all { IsAtEnd trace.now follower.now.monitor }
     requires unaudited { unaudited ≡ spec.unaudited follower.now.base begun trace.now }
     ensures { IfOk result (λ s. string_bytes s
-        ≡ run_lines follower.now.base begun trace.now follower.now.told.items) }
+        ≡ run_lines whole follower.now.base begun trace.now follower.now.told.items) }
 {
     let mut text = String::new(follower.alloc);
     push_unasked(trace, follower.base, begun, &mut text)?;
     push_count("not audited ", unaudited as u64, "\n", &mut text)?;
     let open = follower.monitor.count_open(trace) as u64;
     push_count("open ", open, "\n", &mut text)?;
-    push_run_report(&follower.told, unaudited, trace.len() - begun, &mut text)?;
+    push_run_report(&follower.told, whole, trace.len() - begun, &mut text)?;
     Ok(text)
 }
 
@@ -207,10 +215,12 @@ fn end_run<W: Sink>(
     let trace = paused.trace();
     let carry = handed_text(alloc, trace, &declared, lines, handing)?;
     let unaudited = count_unaudited(trace, follower.base, begun);
-    let text = run_text(follower, trace, begun, unaudited)?;
+    let open = follower.monitor.count_open(trace);
+    let whole = is_whole(unaudited, open, carry.is_some());
+    let text = run_text(follower, trace, begun, unaudited, whole)?;
     let end = RunEnd {
         verdict: follower.verdict(),
-        unaudited,
+        whole,
         carry,
     };
     audit::tell(text.as_str(), end, out)
@@ -254,7 +264,8 @@ fn stand_behind(
 /// nothing is told. At the end of the lines what no commit settles is not told: it goes on to the next run. Then come,
 /// for each entry that came and asks below the base, `line N: not audited, below B`; `not audited K`, for all of these;
 /// `open O`, for the entries that are not settled; and the last lines of the report, which count the entries that came
-/// and the findings of this run. Where nothing was found and K is not 0, the last is `verdict incomplete`.
+/// and the findings of this run. Where nothing was found, and K is not 0, or O is not and no carry takes these entries
+/// on, the last is `verdict incomplete`.
 ///
 /// It gives the verdict of what was told, and what the next run begins with, where that is asked for. A refusal of a line
 /// is told by the number of the line in the run; findings are told by those of the whole log.

@@ -44,7 +44,7 @@ use Rattle.new_enemy.proofs.Statuses.{failed_by, of_no_device, said_by_trace, st
 
 -- what was handed on went out whole, or why it did not
 hands_on : {F : Type 0} (path : List ℕ) (end : RunEnd) (s : ℕ) (to : Handed F) → HandsOn path end s to
-    → (IsHanded end to × (failures_to to ≡ 0) × (s ≡ status_of_end end.verdict end.unaudited))
+    → (IsHanded end to × (failures_to to ≡ 0) × (s ≡ status_of_end end.verdict end.whole))
     ⊎ ((s ≡ 2) × (end.carry ≡ None) × (to ≡ handed.Nothing) ⊎ (s ≡ 5) × ((to ≡ handed.NotMade) ⊎ (0 < failures_to to)))
 hands_on path end s handed.Nothing h = inr (inl (h.1, h.0, refl))
 hands_on path end s handed.NotMade h = inr (inr (h, inl refl))
@@ -73,24 +73,24 @@ module _ {F : Type 0} (from : Option (Opened F)) (x : Opened F) (out : Writing) 
     module _ (end : RunEnd) (ran_on : RunsOn from x out.before.taken out.after.taken end)
         (unfailed : failures_of (file_of x) + failures_from from ≡ 0) (sent : WriterNeverFailed out) where
       -- and its carry went to its file whole, or none was asked for
-      ended_well : IsHanded end to → failures_to to ≡ 0 → s ≡ status_of_end end.verdict end.unaudited
+      ended_well : IsHanded end to → failures_to to ≡ 0 → s ≡ status_of_end end.verdict end.whole
           → RunsFiles (codes "follow") out s (ran.WentOn x from to)
       ended_well whole none is = record {
         command = refl;
-        clean = λ zero. let c = clean_end end.verdict end.unaudited s is zero in (end, ran_on, c.0, c.1, whole);
-        dirty = λ one. (end, ran_on, dirty_end end.verdict end.unaudited s is one, tt, whole);
-        refused = λ two. no_fault_is end.verdict end.unaudited s is (omega (arith, two)) (omega (arith, two));
-        used = λ three. no_fault_is end.verdict end.unaudited s is (omega (arith, three)) (omega (arith, three));
-        left_out = λ six. let l = left_end end.verdict end.unaudited s is six in (end, ran_on, l.0, l.1, whole);
+        clean = λ zero. let c = clean_end end.verdict end.whole s is zero in (end, ran_on, c.0, c.1, whole);
+        dirty = λ one. (end, ran_on, dirty_end end.verdict end.whole s is one, tt, whole);
+        refused = λ two. no_fault_is end.verdict end.whole s is (omega (arith, two)) (omega (arith, two));
+        used = λ three. no_fault_is end.verdict end.whole s is (omega (arith, three)) (omega (arith, three));
+        left_out = λ six. let l = left_end end.verdict end.whole s is six in (end, ran_on, l.0, l.1, whole);
         devices = record {
           flushed = λ one not. absurd (true≢false not);
-          device = λ five _. no_fault_is end.verdict end.unaudited s is (omega (arith, five)) (omega (arith, five));
+          device = λ five _. no_fault_is end.verdict end.whole s is (omega (arith, five)) (omega (arith, five));
           kept = λ other. (omega (arith, unfailed, none), sent);
           unwritten = λ two four not. absurd (true≢false not);
           most = most;
           held = held;
         };
-        statuses = elim (no_fault end.verdict end.unaudited s is) [
+        statuses = elim (no_fault end.verdict end.whole s is) [
           | inl few ↦ omega (arith, few)
           | inr six ↦ omega (arith, six)
         ];

@@ -1,6 +1,5 @@
 -- What the status of a run tells that begins with a carry, or hands one on.
-use Rattle.std.proofs.Common.{◌≡◌, ◌≢◌, ◌⊎◌, inl, inr, ℕ, Bool, true, false, ◌==◌, ◌<◌, ◌≤◌, arith, refl, if◌then◌else◌}
-use Rattle.std.proofs.lemmas.Grind.{common_steps}
+use Rattle.std.proofs.Common.{◌≡◌, ◌≢◌, ◌⊎◌, inl, inr, ℕ, Bool, true, false, ◌≤◌, arith, refl}
 use Rattle.audit.specs.declared.plain.Verdict.{Verdict}
 use Rattle.audit.specs.declared.plain.Verdict.TheVariants.{Clean, Dirty}
 use Rattle.follow.specs.Carried.{IsOfBytes}
@@ -10,51 +9,29 @@ use Rattle.new_enemy.specs.Carrying.{IsStatusOfRefusal, status_of_end}
 
 -- ---- of a run that ended
 
--- all was audited, or not
-data Ending (v : Verdict) (n s : ℕ) : Type 0 where
-  dirty : v ≡ Dirty → s ≡ 1 → Ending v n s
-  clean : v ≡ Clean → n ≡ 0 → s ≡ 0 → Ending v n s
-  incomplete : v ≡ Clean → 0 < n → s ≡ 6 → Ending v n s
+pub clean_end : (v : Verdict) (whole : Bool) (s : ℕ) → s ≡ status_of_end v whole → s ≡ 0 → (v ≡ Clean) × (whole ≡ true)
+clean_end Dirty whole s is zero = absurd (omega (arith, is, zero))
+clean_end Clean true s is zero = (refl, refl)
+clean_end Clean false s is zero = absurd (omega (arith, is, zero))
 
-ending : (v : Verdict) (n s : ℕ) → s ≡ status_of_end v n → Ending v n s
-ending Dirty n s is = dirty refl is
-ending Clean n s is = by_test (n == 0) refl is
-  where
-    by_test : (b : Bool) → (n == 0) ≡ b → s ≡ (if b then 0 else 6) → Ending Clean n s
-    by_test true none is = clean refl (grind (arith, common_steps, none)) is
-    by_test false some is = incomplete refl (grind (arith, common_steps, some)) is
+pub dirty_end : (v : Verdict) (whole : Bool) (s : ℕ) → s ≡ status_of_end v whole → s ≡ 1 → v ≡ Dirty
+dirty_end Dirty whole s is one = refl
+dirty_end Clean true s is one = absurd (omega (arith, is, one))
+dirty_end Clean false s is one = absurd (omega (arith, is, one))
 
-pub clean_end : (v : Verdict) (n s : ℕ) → s ≡ status_of_end v n → s ≡ 0 → (v ≡ Clean) × (n ≡ 0)
-clean_end v n s is zero = elim (ending v n s is) [
-  | dirty a b ↦ absurd (omega (arith, b, zero))
-  | clean a b c ↦ (a, b)
-  | incomplete a b c ↦ absurd (omega (arith, c, zero))
-]
-
-pub dirty_end : (v : Verdict) (n s : ℕ) → s ≡ status_of_end v n → s ≡ 1 → v ≡ Dirty
-dirty_end v n s is one = elim (ending v n s is) [
-  | dirty a b ↦ a
-  | clean a b c ↦ absurd (omega (arith, c, one))
-  | incomplete a b c ↦ absurd (omega (arith, c, one))
-]
-
-pub left_end : (v : Verdict) (n s : ℕ) → s ≡ status_of_end v n → s ≡ 6 → (v ≡ Clean) × (0 < n)
-left_end v n s is six = elim (ending v n s is) [
-  | dirty a b ↦ absurd (omega (arith, b, six))
-  | clean a b c ↦ absurd (omega (arith, c, six))
-  | incomplete a b c ↦ (a, b)
-]
+pub left_end : (v : Verdict) (whole : Bool) (s : ℕ) → s ≡ status_of_end v whole → s ≡ 6 → (v ≡ Clean) × (whole ≡ false)
+left_end Dirty whole s is six = absurd (omega (arith, is, six))
+left_end Clean true s is six = absurd (omega (arith, is, six))
+left_end Clean false s is six = (refl, refl)
 
 -- it is none of those of a fault
-pub no_fault : (v : Verdict) (n s : ℕ) → s ≡ status_of_end v n → (s ≤ 1) ⊎ (s ≡ 6)
-no_fault v n s is = elim (ending v n s is) [
-  | dirty a b ↦ inl (omega (arith, b))
-  | clean a b c ↦ inl (omega (arith, c))
-  | incomplete a b c ↦ inr c
-]
+pub no_fault : (v : Verdict) (whole : Bool) (s : ℕ) → s ≡ status_of_end v whole → (s ≤ 1) ⊎ (s ≡ 6)
+no_fault Dirty whole s is = inl (omega (arith, is))
+no_fault Clean true s is = inl (omega (arith, is))
+no_fault Clean false s is = inr is
 
-pub no_fault_is : {X : Type 0} (v : Verdict) (n s : ℕ) → s ≡ status_of_end v n → 2 ≤ s → s ≤ 5 → X
-no_fault_is v n s is two five = elim (no_fault v n s is) [
+pub no_fault_is : {X : Type 0} (v : Verdict) (whole : Bool) (s : ℕ) → s ≡ status_of_end v whole → 2 ≤ s → s ≤ 5 → X
+no_fault_is v whole s is two five = elim (no_fault v whole s is) [
   | inl one ↦ absurd (omega (arith, one, two))
   | inr six ↦ absurd (omega (arith, six, five))
 ]

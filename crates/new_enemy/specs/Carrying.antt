@@ -1,5 +1,5 @@
 -- What the program answers of a run that begins with a carry, or hands one on.
-use Rattle.std.specs.Prelude.{◌≡◌, ◌⊎◌, ◌==◌, ℕ, ◌+◌, ◌<◌, ◌≤◌, List, Option, Some, None, Result, Ok, Err, String, string_bytes, if◌then◌else◌, ⊤}
+use Rattle.std.specs.Prelude.{◌≡◌, ◌⊎◌, ℕ, Bool, true, false, ◌+◌, ◌<◌, ◌≤◌, List, Option, Some, None, Result, Ok, Err, String, string_bytes, ⊤}
 use Rattle.std.specs.declared.alloc.Global.{Global}
 use Rattle.devices.specs.Devices.{moved_by, failures_of, stops_of}
 use Rattle.audit.specs.declared.plain.Verdict.{Verdict}
@@ -24,10 +24,11 @@ IsStatusOfRefusal refusal.Read s = s ≡ 5
 IsStatusOfRefusal refusal.OutOfMemory s = s ≡ 4
 IsStatusOfRefusal _ s = s ≡ 2
 
--- 1 where something was told, and else 0 where all was audited
-abbrev pub status_of_end : Verdict → ℕ → ℕ
-status_of_end Dirty unaudited = 1
-status_of_end Clean unaudited = if unaudited == 0 then 0 else 6
+-- 1 where something was told, and else 0 where the run is whole
+abbrev pub status_of_end : Verdict → Bool → ℕ
+status_of_end Dirty whole = 1
+status_of_end Clean true = 0
+status_of_end Clean false = 6
 
 -- ---- what a run hands on
 
@@ -41,13 +42,13 @@ abbrev pub HandsOn : {F : Type 0} → List ℕ → RunEnd → ℕ → Handed F �
 HandsOn path end s handed.Nothing = (end.carry ≡ None) × (s ≡ 2)
 HandsOn path end s handed.NotMade = s ≡ 5
 HandsOn path end s (handed.Made made) = (path_of made ≡ path)
-    × (((s ≡ status_of_end end.verdict end.unaudited) × IsWritten end made)
+    × (((s ≡ status_of_end end.verdict end.whole) × IsWritten end made)
     ⊎ ((s ≡ 5) × (0 < failures_of (file_of made) + stops_of (file_of made))))
 
 -- so it is where a path is given, and the run ended
 abbrev pub IsHandedOn : {F : Type 0} → Option (List ℕ) → Result RunEnd RunFault → ℕ → Handed F → Type 0
 IsHandedOn (Some path) (Ok end) s to = HandsOn path end s to
-IsHandedOn None (Ok end) s to = (to ≡ handed.Nothing) × (s ≡ status_of_end end.verdict end.unaudited)
+IsHandedOn None (Ok end) s to = (to ≡ handed.Nothing) × (s ≡ status_of_end end.verdict end.whole)
 IsHandedOn path (Err (fault.Carry f)) s to = (to ≡ handed.Nothing) × IsStatusOfRefusal f s
 IsHandedOn path (Err (fault.Run f)) s to = (to ≡ handed.Nothing) × (2 ≤ s) × IsStatus f s
 
@@ -66,22 +67,22 @@ IsHanded end handed.Nothing = ⊤
 IsHanded end handed.NotMade = ⊥
 IsHanded end (handed.Made made) = IsWritten end made
 
--- a run ended with this verdict, and what holds of how many entries were not audited
-abbrev pub IsRunTold : {F : Type 0} → Verdict → (ℕ → Type 0) → Opened F → Option (Opened F) → Handed F → List ℕ → List ℕ
+-- a run ended with this verdict, and was whole, or not
+abbrev pub IsRunTold : {F : Type 0} → Verdict → (Bool → Type 0) → Opened F → Option (Opened F) → Handed F → List ℕ → List ℕ
     → Type 0
-IsRunTold v Unaudited trace from to old new = (end : RunEnd) × RunsOn from trace old new end × (end.verdict ≡ v)
-    × Unaudited end.unaudited × IsHanded end to
+IsRunTold v Whole trace from to old new = (end : RunEnd) × RunsOn from trace old new end × (end.verdict ≡ v)
+    × Whole end.whole × IsHanded end to
 
--- nothing was found, and all was audited
+-- nothing was found, and all was audited, or goes on in the carry
 abbrev pub IsCleanRunTold : {F : Type 0} → Opened F → Option (Opened F) → Handed F → List ℕ → List ℕ → Type 0
-IsCleanRunTold = IsRunTold Clean (λ n. n ≡ 0)
+IsCleanRunTold = IsRunTold Clean (λ b. b ≡ true)
 
 -- nothing was found, and some entry was not audited
 abbrev pub IsIncompleteRunTold : {F : Type 0} → Opened F → Option (Opened F) → Handed F → List ℕ → List ℕ → Type 0
-IsIncompleteRunTold = IsRunTold Clean (λ n. 0 < n)
+IsIncompleteRunTold = IsRunTold Clean (λ b. b ≡ false)
 
 abbrev pub IsDirtyRunTold : {F : Type 0} → Opened F → Option (Opened F) → Handed F → List ℕ → List ℕ → Type 0
-IsDirtyRunTold = IsRunTold Dirty (λ n. ⊤)
+IsDirtyRunTold = IsRunTold Dirty (λ b. ⊤)
 
 -- no run begins with what the files gave
 abbrev pub IsNoRun : {F : Type 0} → Option (Opened F) → Opened F → Type 0

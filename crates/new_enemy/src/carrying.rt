@@ -34,13 +34,14 @@ pub struct Carrying<'a> {
     pub oldest: u64,
 }
 
-/// The exit status of a run that ended: 6 where nothing was found, and not all was audited.
+/// The exit status of a run that ended: 6 where nothing was found, and it is not whole.
 fn status_of_end(end: &RunEnd) -> u8
-    ensures { result ≡ status_of_end end.now.verdict end.now.unaudited }
+    ensures { result ≡ status_of_end end.now.verdict end.now.whole }
 {
     match end.verdict {
         Verdict::Dirty => 1,
-        Verdict::Clean => { if end.unaudited == 0 { 0 } else { 6 } }
+        Verdict::Clean if end.whole => 0,
+        Verdict::Clean => 6,
     }
 }
 

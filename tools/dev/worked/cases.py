@@ -189,7 +189,7 @@ def _parts(lines: _Lines, is_second: bool) -> _Parts:
         if not found:
             raise lines.fault("no part of a run: %s" % said)
         file, stream = found[2] and lines.word(found[2]), found[3] or found[4]
-        there = file in (wrote if found[1] == "wrote" else files)
+        there = file in wrote if found[1] == "wrote" else file in files
         if there or stream in streams or file is not None and re.fullmatch(r"\.{0,2}|.*[/\0].*", file, re.DOTALL):
             raise lines.fault("a part that was there before, or no name of a file: %s" % said)
         lines.at += 1

@@ -1,4 +1,5 @@
-use Rattle.std.proofs.Common.{◌≡◌, ◌∙◌, sym, ap, subst}
+use Rattle.std.proofs.Common.{◌≡◌, ◌∙◌, Bool, length, refl, sym, ap, subst}
+use Rattle.monitor.specs.Standing.{open_entries}
 use Rattle.std.specs.Prelude.{IfSome, string_bytes}
 use Rattle.trace_lines.specs.Values.{TraceValue}
 use Rattle.audit.specs.Parts.{Told}
@@ -17,14 +18,21 @@ returns-in_err-text g c = handed_on (Told _ _) _ c.from_residual-in_err-text.ens
 pub returns : goal.returns
 returns g c =
     let f = c.args.follower.now in
+    let w = c.is_whole-whole.result in
     let one : c.trace-trace.result.now ≡ c.args.log.log =
     c.trace-trace.ensures ∙ c.pause-paused.ensures ∙ c.into_parts-before.ensures.log in
     told-map _ _ _ c.tell.result (λ text end says. record {
       lines = says.0 ∙ c.as_str.ensures.value ∙ c.in_ok-text.ensures
-          ∙ ap (λ (t : TraceValue). run_lines f.base c.args.begun t f.told.items) one;
+          ∙ ap (λ (t : TraceValue). run_lines w f.base c.args.begun t f.told.items) one
+          ∙ ap (λ (b : Bool). run_lines b f.base c.args.begun c.args.log.log f.told.items)
+          (sym (ap (λ (e : RunEnd). e.whole) says.1));
       verdict = ap (λ (e : RunEnd). e.verdict) says.1 ∙ c.verdict.ensures;
-      unaudited = ap (λ (e : RunEnd). e.unaudited) says.1 ∙ c.count_unaudited-unaudited.ensures
-          ∙ ap (λ (t : TraceValue). unaudited f.base c.args.begun t) one;
+      whole = ap (λ (e : RunEnd). e.whole) says.1 ∙ c.is_whole-whole.ensures ∙ rw (
+        c.count_unaudited-unaudited.ensures ∙ ap (λ (t : TraceValue). unaudited f.base c.args.begun t) one,
+        c.count_open-open.ensures ∙ ap (λ (t : TraceValue). length (open_entries t)) one,
+        c.is_some.ensures,
+        ap (λ (e : RunEnd). e.carry) says.1,
+      ) refl;
       carry = subst (λ o. IfSome o (λ s. IsCarryText c.args.log.log (string_bytes s))) (sym (ap (λ (e : RunEnd). e.carry) says.1))
           (subst (λ (t : TraceValue). IfSome c.in_ok-carry.carry (λ s. IsCarryText t (string_bytes s))) one c.in_ok-carry.ensures);
     }) c.tell.ensures
