@@ -11,7 +11,7 @@ from unittest import mock
 from urllib.parse import urlsplit
 
 from new_enemy_tools.importing.reading import Bad
-from new_enemy_tools.recording.bodies import body_of
+from new_enemy_tools.recording.bodies import body_of, request_of
 from new_enemy_tools.recording.messages import Ended, Started, Teller, messages_from
 from new_enemy_tools.recording.openfga import call_of
 from new_enemy_tools.recording.reader import Reader
@@ -208,6 +208,25 @@ class Beginning(Case):
         self.assertEqual((self.answers(b"HTTP/1.1 100 Continue\r\n\r\n"), self.asks(b"{"), self.told), (b"", b"", []))
         self.assertEqual((self.asks(b"}"), self.kinds()), (b"{}", ["Started"]))
 
+    def test_an_answer_before_the_body_that_it_asks_for(self):
+        """Nobody could have looked at what the body asks, so it is counted where it is no refusal; the body goes on all the same."""
+        head = HEAD + b"Expect: 100-continue\r\nContent-Length: 2\r\n\r\n"
+        for answer, told in ((OK, ["an answer that came before its request had been passed on"]), (OK.replace(b"200", b"401"), [])):
+            self.setUp()
+            self.asks(head)
+            self.answers(answer)
+            self.assertEqual((self.asks(b"{}"), self.told), (b"{}", told))
+
+    def test_a_call_that_is_not_known(self):
+        """It is counted where it was answered, also by half."""
+        request, unknown = self.REQUEST.replace(b"/check", b"/check;x"), "a call that the recorder does not know, which was answered"
+        for answer, told in ((OK, [unknown]), (OK.replace(b"200", b"404"), []), (OK[:-1], [unknown]), (b"", [])):
+            self.setUp()
+            self.assertEqual(self.asks(request), request)
+            self.answers(answer)
+            self.reader.end()
+            self.assertEqual(self.told, told)
+
     def test_a_check_behind_another(self):
         self.assertEqual(self.asks(self.REQUEST * 2), self.REQUEST)
         self.assertEqual(self.kinds(), ["Started"])
@@ -300,6 +319,16 @@ class Beginning(Case):
             self.asks(b"POST %s HTTP/1.1\r\nContent-Length: 2\r\n\r\n{}" % path)
             self.answers(OK)
             self.assertEqual((self.told[-1].call, self.told[-1].path), ("check", "/stores/A/check"))
+
+    def test_names_that_stand_twice(self):
+        """Some readers take the first, and some the last."""
+        for asked, answered, why in ((b'{"a":1,"a":2}', b"{}", "twice"), (b'{"tuple_key":1,"tupleKey":2}', b"{}", "both spellings"),
+                                     (b'{"a":[{"b":1,"b":1}]}', b"{}", "twice"), (b"{}", b'{"allowed":false,"allowed":true}', "twice")):
+            message = Ended(1, "check", "", 0, 0, 0, None, None, None, 200, asked, answered, None)
+            with self.assertRaisesRegex(Bad, why):
+                request_of(message)
+                body_of(message)
+        self.assertEqual(body_of(message._replace(response=b'{"a_1":{},"a1":{}}')), {"a_1": {}, "a1": {}})
 
     def test_a_packed_answer_that_holds_much(self):
         data = gzip.compress(b"[" + b"1," * (20 << 20) + b"1]")

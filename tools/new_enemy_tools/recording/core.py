@@ -120,6 +120,8 @@ class Core:
     def __init__(self, service: Service, hold: float):
         self.service, self.hold = service, hold
         self.now = Now(0, 0)
+        # how far the clock of the wall was ahead of the one that all processes share, at least and at most: it may be set
+        self.ahead: Optional[tuple[int, int]] = None
         self.sequencer, self.gaps = Sequencer(), Gaps()
         self.is_ready = self.is_over = False
         # when the service last told of its changes, and whether they can't be read
@@ -150,7 +152,7 @@ class Core:
     # Events
 
     def take(self, message: Any, now: Now) -> None:
-        self.now = now
+        self._come_to(now)
         try:
             if isinstance(message, (Started, Ended, Beat)):
                 self._tell_until(message.clock)
@@ -175,6 +177,20 @@ class Core:
                 self.service.moved(self)
         except Exception as fault:
             self.lose(_reason(fault), 0)
+
+    def _come_to(self, now: Now) -> None:
+        self.now = now
+        ahead = now.wall - now.clock
+        least, most = self.ahead or (ahead, ahead)
+        self.ahead = min(least, ahead), max(most, ahead)
+
+    def earliest(self, clock: int) -> int:
+        """What the clock of the wall said then, at least."""
+        return clock + (self.ahead[0] if self.ahead else 0)
+
+    def latest(self, clock: int) -> int:
+        """What the clock of the wall said then, at most."""
+        return clock + (self.ahead[1] if self.ahead else 0)
 
     def _tell_until(self, clock: int) -> None:
         self.sequencer.told_until = max(clock, self.sequencer.told_until)
@@ -238,13 +254,18 @@ class Core:
         """Some of the entries that wait for their place get none."""
         for one in self.sequencer.take_out(which):
             self.forget(one.call)
-            self.lose(reason, one.since, one.data.count(b"\n"))
+            self.lose(reason, self._wall(one.since), one.data.count(b"\n"))
+
+    def _wall(self, clock: int) -> int:
+        """What the clock of the wall said, had it never been set."""
+        return self.now.wall - (self.now.clock - clock)
 
     def _add_gap(self, reason: str, start: int, end: int, count: int) -> None:
         if reason not in self.lost and len(self.lost) >= CAUSES:
             reason = "other causes than %d" % CAUSES
-        # The clock of the wall may have been set back meanwhile.
-        self.gaps.add(reason, min(start, end), max(start, end), count)
+        # Where the clock of the wall was set back, what was lost by the old time may be shown by the new one.
+        back = self.latest(self.now.clock) - self.now.wall if self.ahead else 0
+        self.gaps.add(reason, min(start, end) - back, max(start, end), count)
         self.lost[reason] += count
 
     def tried(self, message: Ended, work: Callable[[], None]) -> None:
@@ -290,17 +311,17 @@ class Core:
         if self.sequencer.size > ROOM:
             raise Bad(FULL)
         if made:
-            self.sequencer.put_entry(place, message.at, made, message.number)
+            self.sequencer.put_entry(place, message.clock, made, message.number)
 
     # Time, and the lines
 
     def tick(self, now: Now) -> None:
         """Gives up what has waited for too long."""
-        self.now = now
+        self._come_to(now)
         self.ticks += 1
-        before, clock = now.wall - int(self.hold * 1e9), now.clock - int(self.hold * 1e9)
+        before = now.clock - int(self.hold * 1e9)
         for number, since in list(self.saves_since.items()):
-            if since < clock and number in self.asked:
+            if since < before and number in self.asked:
                 self._let_go(number)
                 self.unheld.add(number)
         behind = "the changes were more than %g seconds behind" % self.hold
@@ -335,7 +356,7 @@ class Core:
 
     def end_asked(self, now: Now) -> None:
         """The proxy is gone: what has no answer gets none."""
-        self.now = now
+        self._come_to(now)
         self._lose_open(self.asked, "the recorder ended before their answers")
 
     def is_waiting(self) -> bool:
@@ -344,7 +365,7 @@ class Core:
 
     def end(self, now: Now) -> None:
         """Nothing more comes: what waits is lost."""
-        self.now = now
+        self._come_to(now)
         if self.elsewhere:
             self.say("checks of other stores, which are not recorded: %d" % self.elsewhere)
         self._say_elsewhere()
@@ -363,7 +384,7 @@ class Core:
         """The recorder ends with these calls; each is counted."""
         for number, asked in list(calls.items()):
             self.forget(number)
-            self.gaps.add("%s: %s" % (reason, asked.kind), self.now.wall - (self.now.clock - asked.clock), self.now.wall)
+            self.gaps.add("%s: %s" % (reason, asked.kind), self._wall(asked.clock), self.now.wall)
         calls.clear()
         self._say_gaps(True)
 

@@ -9,7 +9,7 @@ from collections import deque
 from typing import Callable, Optional
 
 from new_enemy_tools.recording.http_reading import Head, Messages, Strange, path_of
-from new_enemy_tools.recording.messages import TOLD, Ended, Started, Teller
+from new_enemy_tools.recording.messages import CHECKS, TOLD, UNKNOWN, UNKNOWN_CALL, Ended, Started, Teller
 
 NUMBERS = itertools.count(1)
 Call = Callable[[str, str], Optional[str]]
@@ -180,8 +180,7 @@ class Reader:
     def _give_up(self) -> None:
         """No answer will be read of what was asked; one that had begun broke off."""
         for exchange in self.exchanges:
-            if exchange.is_told:
-                self.teller.tell(exchange.ended(None))
+            self._tell_end(exchange, None)
         self.exchanges.clear()
 
     def _feed_end(self) -> None:
@@ -206,7 +205,7 @@ class Reader:
     def _request_body(self, body: Optional[bytes]) -> None:
         if self.asked is not None:
             self.asked.is_whole = True
-            if self.asked.call:
+            if self.asked.call in TOLD:
                 self.asked.request = body
         self.asked = None
 
@@ -229,5 +228,13 @@ class Reader:
             return
         exchange = self.exchanges.popleft()
         exchange.is_answered = True
+        self._tell_end(exchange, body)
+
+    def _tell_end(self, exchange: Exchange, body: Optional[bytes]) -> None:
+        """An answer, or that it broke off."""
         if exchange.is_told:
             self.teller.tell(exchange.ended(body))
+        elif 200 <= exchange.status < 300 and exchange.call == UNKNOWN:
+            self.teller.lose(UNKNOWN_CALL)
+        elif 200 <= exchange.status < 300 and exchange.call in CHECKS:
+            self.teller.lose("an answer that came before its request had been passed on")
