@@ -339,7 +339,7 @@ class Order(Case):
         core.take(Beat(0), Now(100 * 10 ** 9, 10 ** 9))
         core.take(Lost(100 * 10 ** 9, 100 * 10 ** 9, 1, "why"), Now(50 * 10 ** 9, 2 * 10 ** 9))
         gap = json.loads(core.gaps.lines(core.now, True))
-        self.assertEqual((gap["from"], gap["to"]), ("1970-01-01T00:00:49.000000Z", "1970-01-01T00:01:40.000000Z"))
+        self.assertEqual((gap["from"], gap["to"]), ("1970-01-01T00:00:49.000000Z", "1970-01-01T00:02:31.000000Z"))
         self.assertEqual([core.earliest(3 * 10 ** 9), core.latest(3 * 10 ** 9)], [51 * 10 ** 9, 102 * 10 ** 9])
         core.is_first, core.left = False, Left(Place(None, 0, None), 0, 0, "1970-01-01T00:02:00Z", 0)
         gap = json.loads(core._gap_before(0))

@@ -12,7 +12,7 @@ from unittest import mock
 from new_enemy_tools.importing import openfga_answers
 from new_enemy_tools.importing.events import Relationship
 from new_enemy_tools.importing.times import nanoseconds
-from new_enemy_tools.recording import bodies, core, http_reading, openfga_feed
+from new_enemy_tools.recording import bodies, core, http_reading, log_files, openfga_feed
 from new_enemy_tools.recording.asking import FeedFault
 from new_enemy_tools.recording.core import Core, Now
 from new_enemy_tools.recording.lines import gap_line
@@ -187,7 +187,33 @@ class OfTheWhole(Case):
         self.assert_found("a wrong reply is called right", mock.patch.object(Reader, "passing", _passing_at_once))
 
     def test_a_path_that_is_read_as_it_stands(self):
-        self.assert_found("a check is neither in the log nor in a gap", mock.patch("new_enemy_tools.recording.reader.path_of", lambda target: target))
+        """Where calls that are not known are no gap."""
+        self.assert_found("a check is neither in the log nor in a gap", mock.patch("new_enemy_tools.recording.reader.path_of", lambda target: target),
+                          mock.patch("new_enemy_tools.recording.reader.UNKNOWN", "none"))
+
+    def test_a_call_that_is_not_known_and_passes(self):
+        self.assert_found("a check is neither in the log nor in a gap", mock.patch("new_enemy_tools.recording.reader.UNKNOWN", "none"))
+
+    def test_a_page_that_is_not_full_taken_for_the_last(self):
+        """What it does not show counts as if it had not come."""
+        kept = OpenFgaFeed._pages
+
+        def pages(feed, cursor):
+            feed.longest = openfga_feed.PAGE
+            return kept(feed, cursor)
+        self.assert_found("a wrong reply is called right", mock.patch.object(OpenFgaFeed, "_pages", pages))
+
+    def test_a_clock_that_is_set_while_something_is_lost(self):
+        def wall(core, clock):
+            return core.now.wall - (core.now.clock - clock)
+        self.assert_found("a check is neither in the log nor in a gap", mock.patch.object(Core, "earliest", wall), mock.patch.object(
+            Core, "latest", wall))
+
+    def test_a_clock_that_was_set_back_when_a_recorder_was_killed(self):
+        def gap(files, last, now):
+            at = nanoseconds(last)
+            return gap_line(at and at - int((files.hold + log_files.LATER) * 1e9), now, "the recorder was killed")
+        self.assert_found("a check is neither in the log nor in a gap", mock.patch.object(LogFiles, "_gap_of_killed", gap))
 
     def test_a_label_that_is_read_as_latin_1(self):
         latin = mock.patch.object(Exchange, "_label", lambda exchange, head, name: head.values[name].decode("latin-1").strip())

@@ -186,11 +186,11 @@ class Core:
 
     def earliest(self, clock: int) -> int:
         """What the clock of the wall said then, at least."""
-        return clock + (self.ahead[0] if self.ahead else 0)
+        return clock + (self.ahead or (0, 0))[0]
 
     def latest(self, clock: int) -> int:
         """What the clock of the wall said then, at most."""
-        return clock + (self.ahead[1] if self.ahead else 0)
+        return clock + (self.ahead or (0, self.now.wall - self.now.clock))[1]
 
     def _tell_until(self, clock: int) -> None:
         self.sequencer.told_until = max(clock, self.sequencer.told_until)
@@ -254,18 +254,14 @@ class Core:
         """Some of the entries that wait for their place get none."""
         for one in self.sequencer.take_out(which):
             self.forget(one.call)
-            self.lose(reason, self._wall(one.since), one.data.count(b"\n"))
-
-    def _wall(self, clock: int) -> int:
-        """What the clock of the wall said, had it never been set."""
-        return self.now.wall - (self.now.clock - clock)
+            self.lose(reason, self.earliest(one.since), one.data.count(b"\n"))
 
     def _add_gap(self, reason: str, start: int, end: int, count: int) -> None:
         if reason not in self.lost and len(self.lost) >= CAUSES:
             reason = "other causes than %d" % CAUSES
-        # Where the clock of the wall was set back, what was lost by the old time may be shown by the new one.
-        back = self.latest(self.now.clock) - self.now.wall if self.ahead else 0
-        self.gaps.add(reason, min(start, end) - back, max(start, end), count)
+        # Where the clock of the wall was set back, what was lost by the old time may be shown by the new one, and the other way round.
+        back = self.latest(self.now.clock) - self.now.wall
+        self.gaps.add(reason, min(start, end) - back, max(start, end) + back, count)
         self.lost[reason] += count
 
     def tried(self, message: Ended, work: Callable[[], None]) -> None:
@@ -384,7 +380,7 @@ class Core:
         """The recorder ends with these calls; each is counted."""
         for number, asked in list(calls.items()):
             self.forget(number)
-            self.gaps.add("%s: %s" % (reason, asked.kind), self._wall(asked.clock), self.now.wall)
+            self.gaps.add("%s: %s" % (reason, asked.kind), self.earliest(asked.clock), self.latest(self.now.clock))
         calls.clear()
         self._say_gaps(True)
 

@@ -66,9 +66,9 @@ def base_lines(revision: int, tuples: list[Relationship]) -> Iterator[bytes]:
 
 
 def gap_line(start: Optional[int], end: int, reason: str, lost: int = 0) -> bytes:
-    """A gap, whose ends change places where the clock was set back meanwhile."""
-    if start is not None:
-        start, end = min(start, end), max(start, end)
+    """A gap; where the clock was set back meanwhile nobody knows how far, so it has no beginning."""
+    if start is not None and start > end:
+        start, end = None, start
     shown = time_text(end)
     return line("gap", **{"from": None if start is None else time_text(start)}, to=shown, reason=reason, lost=lost or None, time=shown)
 
