@@ -594,9 +594,9 @@ class OfWhole(Verdict):
     def _take(self, row):
         super()._take(row)
         if row["event"] == "gap":
-            # A log that was begun when the clock had been set back can't say of the time before.
-            is_first = row["reason"] == "the log begins" and self.world.set_by < 0
-            self.spans.append(((nanoseconds(row.get("from")) or 0) - 1000, 1 << 62 if is_first else nanoseconds(row["to"]) + 1000))
+            # Where the clock had been set back when a recorder began, nobody knows how long it was before that.
+            is_open = row.get("from") is None and self.world.set_by < 0
+            self.spans.append(((nanoseconds(row.get("from")) or 0) - 1000, 1 << 62 if is_open else nanoseconds(row["to"]) + 1000))
         elif row["event"] == "elsewhere":
             self.elsewhere += row["count"]
         elif row["event"] == "write":
@@ -635,6 +635,9 @@ class OfWhole(Verdict):
                 yield "a line is none of the check that was answered then"
 
     def _of_check(self, one, row, behind):
+        if one.world is None:
+            yield "a line is of a check that was told to no keeper (check %d)" % one.number
+            return
         yield from super()._of_check(one, row, behind)
         named = one.shows or (one if one.save and one.reply else None)
         if row.get("version") != (named and label_of(named)):

@@ -21,7 +21,7 @@ from new_enemy_tools.importing.reading import Bad
 from new_enemy_tools.importing.service import Answer
 from new_enemy_tools.importing.times import nanoseconds
 from new_enemy_tools.recording.asking import FeedFault
-from new_enemy_tools.recording.core import FULL, Core, Now
+from new_enemy_tools.recording.core import FULL, SET, Core, Now
 from new_enemy_tools.recording.http_reading import BODY, Head, Messages, Strange, path_of
 from new_enemy_tools.recording.keeper import Settings
 from new_enemy_tools.recording.log_files import LATER, InUse, Left, LogFault, LogFiles, Place
@@ -334,7 +334,7 @@ class Order(Case):
         self.assertEqual((gap["from"], gap["to"]), ("1970-01-01T00:00:01.000000Z", "1970-01-01T00:00:03.000000Z"))
 
     def test_a_version_that_is_shown_when_the_clock_was_set_back(self):
-        """The gap of its content begins before the time by which it was shown, and has its ends in order, also that of a later recorder."""
+        """The gap of its content begins before the time by which it was shown; that of a later recorder has no beginning."""
         core = Core(mock.Mock(), 30)
         core.take(Beat(0), Now(100 * 10 ** 9, 10 ** 9))
         core.take(Lost(100 * 10 ** 9, 100 * 10 ** 9, 1, "why"), Now(50 * 10 ** 9, 2 * 10 ** 9))
@@ -343,7 +343,18 @@ class Order(Case):
         self.assertEqual([core.earliest(3 * 10 ** 9), core.latest(3 * 10 ** 9)], [51 * 10 ** 9, 102 * 10 ** 9])
         core.is_first, core.left = False, Left(Place(None, 0, None), 0, 0, "1970-01-01T00:02:00Z", 0)
         gap = json.loads(core._gap_before(0))
-        self.assertEqual((gap["from"], gap["to"]), ("1970-01-01T00:00:50.000000Z", "1970-01-01T00:02:00.000000Z"))
+        self.assertEqual((gap.get("from"), gap["to"]), (None, "1970-01-01T00:02:00.000000Z"))
+
+    def test_a_clock_that_is_set_is_told(self):
+        """Around that, by either time, something may be lost when the recorder is killed; a clock that is read a little late was not set."""
+        for wall in 50, 300:
+            core = Core(mock.Mock(), 30)
+            core.is_ready = True
+            for now in Now(100 * 10 ** 9, 10 ** 9), Now(101 * 10 ** 9 - 5_000_000, 2 * 10 ** 9), Now(wall * 10 ** 9, 3 * 10 ** 9):
+                core.take(Beat(0), now)
+            gap, = map(json.loads, core.unsaid)
+            self.assertEqual((gap["reason"], nanoseconds(gap["from"]), nanoseconds(gap["to"])), (
+                SET, (min(wall, 102) - 30) * 10 ** 9, max(wall, 102) * 10 ** 9))
 
     def test_what_waits_is_not_given_up_where_the_clock_is_set_forward(self):
         core = Core(mock.Mock(late=mock.Mock(return_value=[])), 30)

@@ -12,7 +12,7 @@ from unittest import mock
 from new_enemy_tools.importing import openfga_answers
 from new_enemy_tools.importing.events import Relationship
 from new_enemy_tools.importing.times import nanoseconds
-from new_enemy_tools.recording import bodies, core, http_reading, log_files, openfga_feed
+from new_enemy_tools.recording import bodies, core, http_reading, openfga_feed
 from new_enemy_tools.recording.asking import FeedFault
 from new_enemy_tools.recording.core import Core, Now
 from new_enemy_tools.recording.lines import gap_line
@@ -157,11 +157,11 @@ class Finds(Case):
 class OfTheWhole(Case):
     """The whole recorder, which passes bytes of HTTP, is killed, ended and begun again; and each cure that is taken out is missed by some seed."""
 
-    def assert_found(self, wanted, *patches):
+    def assert_found(self, wanted, *patches, seeds=range(WHOLE)):
         with ExitStack() as stack:
             for one in patches:
                 stack.enter_context(one)
-            for seed in range(WHOLE):
+            for seed in seeds:
                 if any(wanted in fault for fault in run_whole(seed)[1].faults()):
                     return
         self.fail(wanted)
@@ -203,17 +203,13 @@ class OfTheWhole(Case):
             return kept(feed, cursor)
         self.assert_found("a wrong reply is called right", mock.patch.object(OpenFgaFeed, "_pages", pages))
 
-    def test_a_clock_that_is_set_while_something_is_lost(self):
-        def wall(core, clock):
-            return core.now.wall - (core.now.clock - clock)
-        self.assert_found("a check is neither in the log nor in a gap", mock.patch.object(Core, "earliest", wall), mock.patch.object(
-            Core, "latest", wall))
-
-    def test_a_clock_that_was_set_back_when_a_recorder_was_killed(self):
-        def gap(files, last, now):
-            at = nanoseconds(last)
-            return gap_line(at and at - int((files.hold + log_files.LATER) * 1e9), now, "the recorder was killed")
-        self.assert_found("a check is neither in the log nor in a gap", mock.patch.object(LogFiles, "_gap_of_killed", gap))
+    def test_a_clock_that_is_set_and_nothing_tells(self):
+        """Also a version can then be called unknown whose content was lost by the other time."""
+        def come(core, now):
+            core.now, ahead = now, now.wall - now.clock
+            core.ahead = ahead, ahead, ahead
+        for wanted in "a check is neither in the log nor in a gap", "a version that was saved is not known":
+            self.assert_found(wanted, mock.patch.object(Core, "_come_to", come), seeds=(692, 1859, 1979, 2242))
 
     def test_a_label_that_is_read_as_latin_1(self):
         latin = mock.patch.object(Exchange, "_label", lambda exchange, head, name: head.values[name].decode("latin-1").strip())

@@ -17,6 +17,9 @@ from new_enemy_tools.recording.messages import CHECKS, Beat, Bye, Ended, Lost, S
 from new_enemy_tools.recording.sequencer import Commit, Ready, Sequencer
 
 FOREVER = 1 << 63
+# By less than this a clock was not set: the two clocks are read one behind the other.
+NOISE = 10_000_000
+SET = "the clock of the recorder's machine was set"
 # Gaps behind the first one are told together, so often, and checks of other stores.
 TOGETHER = 10 ** 9
 # So many causes are told apart, and so much of one is told: what stands in some comes from a client.
@@ -120,8 +123,8 @@ class Core:
     def __init__(self, service: Service, hold: float):
         self.service, self.hold = service, hold
         self.now = Now(0, 0)
-        # how far the clock of the wall was ahead of the one that all processes share, at least and at most: it may be set
-        self.ahead: Optional[tuple[int, int]] = None
+        # how far the clock of the wall is ahead of the one that all processes share, and was at least and at most: it may be set
+        self.ahead: Optional[tuple[int, int, int]] = None
         self.sequencer, self.gaps = Sequencer(), Gaps()
         self.is_ready = self.is_over = False
         # when the service last told of its changes, and whether they can't be read
@@ -179,18 +182,27 @@ class Core:
             self.lose(_reason(fault), 0)
 
     def _come_to(self, now: Now) -> None:
-        self.now = now
-        ahead = now.wall - now.clock
-        least, most = self.ahead or (ahead, ahead)
-        self.ahead = min(least, ahead), max(most, ahead)
+        self.now, ahead = now, now.wall - now.clock
+        last, least, most = self.ahead or (ahead, ahead, ahead)
+        if self.ahead is None:
+            self.ahead = ahead, ahead, ahead
+        elif abs(ahead - last) > NOISE:
+            self.ahead = ahead, min(least, ahead), max(most, ahead)
+            if self.is_ready:
+                # What waits now may have had its answer by the other time, and be lost with this recorder.
+                self.unsaid.append(gap_line(now.clock - int(self.hold * 1e9) + min(last, ahead), now.clock + max(last, ahead), SET))
 
     def earliest(self, clock: int) -> int:
         """What the clock of the wall said then, at least."""
-        return clock + (self.ahead or (0, 0))[0]
+        return clock + (self.ahead or (0, 0, 0))[1]
 
     def latest(self, clock: int) -> int:
         """What the clock of the wall said then, at most."""
-        return clock + (self.ahead or (0, self.now.wall - self.now.clock))[1]
+        return clock + (self.ahead or (0, 0, self.now.wall - self.now.clock))[2]
+
+    def _back(self) -> int:
+        """How far the clock of the wall was set back."""
+        return max(0, (self.ahead[2] - self.ahead[0]) if self.ahead else 0)
 
     def _tell_until(self, clock: int) -> None:
         self.sequencer.told_until = max(clock, self.sequencer.told_until)
@@ -236,9 +248,14 @@ class Core:
 
     def _gap_before(self, lost: int) -> bytes:
         """The gap up to now, of a log that goes on or begins."""
+        back = self._back()
+        until = self.now.wall + back
         if self.left is None:
-            return gap_line(None, self.now.wall, "the log begins", lost)
-        return gap_line(nanoseconds(self.left.time), self.now.wall, "the recorder did not run", lost)
+            return gap_line(None, until, "the log begins", lost)
+        since = nanoseconds(self.left.time)
+        if since is None or since > until:
+            return gap_line(None, max(since or 0, until), "the recorder did not run", lost)
+        return gap_line(since - back, until, "the recorder did not run", lost)
 
     # What a service puts into the log
 
@@ -259,8 +276,8 @@ class Core:
     def _add_gap(self, reason: str, start: int, end: int, count: int) -> None:
         if reason not in self.lost and len(self.lost) >= CAUSES:
             reason = "other causes than %d" % CAUSES
-        # Where the clock of the wall was set back, what was lost by the old time may be shown by the new one, and the other way round.
-        back = self.latest(self.now.clock) - self.now.wall
+        # What was lost by the old time may be shown by the new one, and the other way round.
+        back = self._back()
         self.gaps.add(reason, min(start, end) - back, max(start, end) + back, count)
         self.lost[reason] += count
 

@@ -66,9 +66,7 @@ def base_lines(revision: int, tuples: list[Relationship]) -> Iterator[bytes]:
 
 
 def gap_line(start: Optional[int], end: int, reason: str, lost: int = 0) -> bytes:
-    """A gap; where the clock was set back meanwhile nobody knows how far, so it has no beginning."""
-    if start is not None and start > end:
-        start, end = None, start
+    """A gap; one without its beginning reaches back as far as the clock may have been set back."""
     shown = time_text(end)
     return line("gap", **{"from": None if start is None else time_text(start)}, to=shown, reason=reason, lost=lost or None, time=shown)
 
