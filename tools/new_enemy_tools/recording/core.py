@@ -98,6 +98,8 @@ class Gaps:
         self.told: Optional[int] = None
 
     def add(self, reason: str, start: int, end: int, amount: int = 1) -> None:
+        # The clock of the wall may have been set back meanwhile.
+        start, end = min(start, end), max(start, end)
         before = self.open.get(reason)
         self.open[reason] = Lost(start, end, amount, reason) if before is None else Lost(
             min(before.start, start), max(before.end, end), before.amount + amount, reason)
@@ -278,7 +280,7 @@ class Core:
             reason = "other causes than %d" % CAUSES
         # What was lost by the old time may be shown by the new one, and the other way round.
         back = self._back()
-        self.gaps.add(reason, min(start, end) - back, max(start, end) + back, count)
+        self.gaps.add(reason, start - back, end + back, count)
         self.lost[reason] += count
 
     def tried(self, message: Ended, work: Callable[[], None]) -> None:

@@ -66,7 +66,6 @@ def base_lines(revision: int, tuples: list[Relationship]) -> Iterator[bytes]:
 
 
 def gap_line(start: Optional[int], end: int, reason: str, lost: int = 0) -> bytes:
-    """A gap; one without its beginning reaches back as far as the clock may have been set back."""
     shown = time_text(end)
     return line("gap", **{"from": None if start is None else time_text(start)}, to=shown, reason=reason, lost=lost or None, time=shown)
 
