@@ -321,6 +321,8 @@ class Protobuf(Case):
                 told.append(OPENFGA.read(shape, data))
             except Malformed as fault:
                 told.append(str(fault))
+        with self.assertRaisesRegex(Malformed, "Consistency has a field that is not known"):
+            SPICEDB.read("CheckPermissionRequest", b"\x0a\x02\x28\x01")
         self.assertEqual(told, ["TupleKey has a field that is not known (5)", "CheckRequest has a field that is not known (9)",
                                 "TupleKey has a field twice (user)", {"allowed": True}])
 

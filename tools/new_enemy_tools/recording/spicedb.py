@@ -28,6 +28,7 @@ from new_enemy_tools.recording.own_events import UNSURE
 from new_enemy_tools.recording.ruled import Takes, Unread, refuse_unread, ruled
 from new_enemy_tools.recording.sequencer import Commit, Known
 from new_enemy_tools.recording.sketches import FAR
+from new_enemy_tools.recording.spicedb_messages import MESSAGES
 from new_enemy_tools.recording.stored import Stored
 from new_enemy_tools.recording.transactions import Transactions
 
@@ -138,6 +139,10 @@ def demanded_by(request: Any) -> Any:
 
 
 def _traits(given: object) -> Optional[str]:
+    try:
+        MESSAGES.refuse_unknown("Relationship", given)
+    except Bad as fault:
+        return str(fault)
     return "caveat" if get(given, "optionalCaveat") else "expiration" if get(given, "optionalExpiresAt") else None
 
 
@@ -416,6 +421,7 @@ class SpiceDb:
             elif revision.snapshot is not None:
                 self._learn(Answered(message.clock, revision.snapshot))
             return
+        MESSAGES.refuse_unknown("Consistency", get(request, "consistency"))
         if message.call == "stream":
             response = [one for one in response if get(one, "error") is None]
         self.decided(message, request, response, asked, core)
