@@ -5,6 +5,7 @@ import json
 import os
 import socket
 import threading
+import time
 from itertools import chain
 from random import Random
 from unittest import mock
@@ -243,12 +244,23 @@ class Beginning(Case):
                 size = random.randint(1, 60)
                 got += self.asks(data[at:at + size])
                 at += size
+                self.assertEqual(self.reader.waits(), min(at, len(data)) - len(got))
                 if random.random() < 0.3 and self.reader.exchanges and self.reader.exchanges[0].is_passed \
                         and not self.reader.exchanges[0].held and self.reader.exchanges[0].is_whole:
                     got += self.answers(OK)
             while self.reader.exchanges:
                 got += self.answers(OK)
             self.assertEqual((got, self.kinds()), (data, ["Started", "Ended"] * 2))
+
+    def test_many_requests_behind_one_another(self):
+        """What waits is not counted anew with each answer."""
+        request, began = b"GET / HTTP/1.1\r\n\r\n", time.process_time()
+        self.asks(request * 30_000)
+        for _ in range(30_000):
+            self.answers(b"HTTP/1.1 200 OK\r\nContent-Length: 0\r\n\r\n")
+            self.reader.waits()
+        self.assertEqual((self.reader.waits(), len(self.reader.exchanges)), (0, 0))
+        self.assertLess(time.process_time() - began, 20)
 
     def test_a_request_that_breaks_off(self):
         """What came goes on as it came; where it is answered all the same, it is a gap."""

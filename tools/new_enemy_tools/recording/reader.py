@@ -65,6 +65,8 @@ class Reader:
         # those without an answer, and those of which something is still to be passed on
         self.exchanges: deque[Exchange] = deque()
         self.coming: deque[Exchange] = deque()
+        # how many bytes are held of these
+        self.held = 0
         self.asked: Optional[Exchange] = None
         self.requests = Messages(self._request, self._request_body, self._hold)
         self.answers = Messages(self._answer, self._answer_body)
@@ -100,10 +102,11 @@ class Reader:
             self.free += data
         else:
             self.asked.held += data
+            self.held += len(data)
 
     def waits(self) -> int:
         """How many bytes are held."""
-        return len(self.requests.data) + (sum(len(one.held) for one in self.coming) if self.coming else 0)
+        return len(self.requests.data) + self.held
 
     def passing(self) -> bytes:
         """What goes on to the service now."""
@@ -128,6 +131,7 @@ class Reader:
                 found = bytes(one.held[:at])
                 del one.held[:at]
                 one.is_passed = True
+                self.held -= at
                 return found
             if len(one.held) <= HELD:
                 return b""
@@ -135,6 +139,7 @@ class Reader:
         self._tell(one)
         one.is_passed = True
         found, one.held = bytes(one.held), bytearray()
+        self.held -= len(found)
         return found
 
     def _tell(self, one: Exchange) -> None:
@@ -153,6 +158,7 @@ class Reader:
             self.free += one.held
             one.held = bytearray()
         self.coming.clear()
+        self.held = 0
         self.free += self.requests.data
         self.requests.data = b""
 
