@@ -16,7 +16,7 @@ from new_enemy_tools.recording.bodies import body_of, request_of
 from new_enemy_tools.recording.messages import Ended, Started, Teller, messages_from
 from new_enemy_tools.recording.openfga import call_of
 from new_enemy_tools.recording.reader import Reader
-from new_enemy_tools.recording.relay import Relay
+from new_enemy_tools.recording.relay import LEAST, Relay, Side
 from tests.support import Case
 
 HEAD = b"POST /stores/A/check HTTP/1.1\r\nHost: x\r\nAuthorization: Bearer z\r\nX-Content-Save: v1\r\n"
@@ -145,6 +145,18 @@ class Unchanged(Case):
     def test_an_answer_that_breaks_off(self):
         told = self.assert_passes(HEAD + b"Content-Length: 2\r\n\r\n{}", b"HTTP/1.1 200 OK\r\nContent-Length: 99\r\n\r\nno more")
         self.assertEqual((told[-1].number, told[-1].status, told[-1].response), (told[0].number, 200, None))
+
+
+class Turns(Case):
+    def test_what_takes_long_to_read_is_taken_in_smaller_pieces(self):
+        """So that other connections have their turn between them."""
+        side, sizes = Side(mock.Mock(), mock.Mock(), True), []
+        side.take = lambda data: None
+        for took in (0.1, 0.1, 0.1, 0.001, 0, 0, 0, 0):
+            with mock.patch("new_enemy_tools.recording.relay.time.thread_time", side_effect=[5.0, 5.0 + took]):
+                side.buffer_updated(LEAST)
+            sizes.append(len(side.get_buffer(-1)) >> 10)
+        self.assertEqual(sizes, [16, 8, 8, 8, 16, 32, 64, 64])
 
 
 class Ends(Case):

@@ -2,6 +2,7 @@
 import gzip
 import json
 import zlib
+from functools import lru_cache
 from typing import Any
 
 from new_enemy_tools.importing.reading import Bad, spelled
@@ -23,6 +24,9 @@ class Unheard(Refusals):
 UNHEARD = Unheard()
 
 
+_other = lru_cache(256)(spelled)
+
+
 def _once(pairs: list[tuple[str, Any]]) -> dict[str, Any]:
     found = dict(pairs)
     if len(found) < len(pairs):
@@ -31,9 +35,12 @@ def _once(pairs: list[tuple[str, Any]]) -> dict[str, Any]:
 
 
 def _spelled_once(pairs: list[tuple[str, Any]]) -> dict[str, Any]:
-    found = _once(pairs)
-    if any("_" in name and spelled(name) in found for name in found):
-        raise Bad("a name that stands in both spellings in an object of JSON")
+    found = dict(pairs)
+    if len(found) < len(pairs):
+        return _once(pairs)
+    for name in found:
+        if "_" in name and _other(name) in found:
+            raise Bad("a name that stands in both spellings in an object of JSON")
     return found
 
 
