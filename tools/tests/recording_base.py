@@ -1,7 +1,9 @@
-"""How long a recorder takes to begin in front of a store of OpenFGA that is large, and how much memory: recording_base.py TUPLES ..
+"""How long a recorder takes to begin in front of a store of OpenFGA that is large, and how much memory, beside how long it takes to ask the
+service alone for all its changes: recording_base.py TUPLES ..
 
 The service is a stand-in that answers each page of changes at once; a tuple was written each millisecond.
 """
+import http.client
 import json
 import os
 import subprocess
@@ -12,6 +14,7 @@ import time
 TOOLS = os.path.dirname(os.path.dirname(os.path.abspath(__file__)))
 sys.path.append(TOOLS)
 
+from new_enemy_tools.recording.openfga_feed import PAGE  # noqa: E402
 from tests.ports import free_port  # noqa: E402
 from tests.stand_in import Handler  # noqa: E402
 
@@ -53,12 +56,28 @@ def most_bytes(parent):
         return next(int(line.split()[1]) << 10 for line in file if line.startswith("VmHWM"))
 
 
+def seconds_alone(port, count):
+    """How long a client takes that asks for each page, and looks at none; from when the service is there."""
+    asker = http.client.HTTPConnection("127.0.0.1", port)
+    while True:
+        try:
+            asker.connect()
+            break
+        except ConnectionRefusedError:
+            time.sleep(0.1)
+    began = time.monotonic()
+    for first in range(0, count + 1, PAGE):
+        asker.request("GET", "/stores/S/changes?page_size=%d&continuation_token=%d" % (PAGE, first))
+        asker.getresponse().read()
+    asker.close()
+    return time.monotonic() - began
+
+
 def measured(count):
     port = free_port()
     service = subprocess.Popen([sys.executable, os.path.abspath(__file__), "--serve", str(count), str(port)])
     with tempfile.TemporaryDirectory() as room, open(os.path.join(room, "said"), "w+", encoding="utf-8") as said:
-        time.sleep(1)
-        began = time.monotonic()
+        alone, began = seconds_alone(port, count), time.monotonic()
         recorder = subprocess.Popen([sys.executable, os.path.join(TOOLS, "record"), "--openfga", "http://127.0.0.1:%d" % port, "--listen",
                                      "127.0.0.1:%d" % free_port(), "--out", os.path.join(room, "log")], stderr=said)
         try:
@@ -66,7 +85,8 @@ def measured(count):
                 time.sleep(0.1)
             took, size = time.monotonic() - began, most_bytes(recorder.pid)
             log = sum(os.path.getsize(os.path.join(room, "log", name)) for name in os.listdir(os.path.join(room, "log")))
-            print(json.dumps({"tuples": count, "seconds": round(took, 1), "bytes": size, "a tuple": round(size / count), "log": log}))
+            print(json.dumps({"tuples": count, "alone": round(alone, 1), "seconds": round(took, 1), "bytes": size, "a tuple": round(size / count),
+                              "log": log}))
         finally:
             recorder.terminate()
             recorder.wait()

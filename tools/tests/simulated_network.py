@@ -4,7 +4,6 @@ pieces, in a time that is drawn, and each side may end or be killed.
 from collections import deque
 
 from new_enemy_tools.recording.messages import SIZE, Bye, messages_from
-from tests.simulation import WALL
 
 
 class Clock:
@@ -14,7 +13,7 @@ class Clock:
         self.world, self.sleep = world, sleep
 
     def time_ns(self):
-        return WALL + self.world.now
+        return self.world.wall()
 
     def monotonic_ns(self):
         return self.world.now

@@ -33,11 +33,13 @@ from tests.simulated_network import Clock, Nobody, Pipe, Transport, Wire
 from tests.simulation import GOALS, STEP, STORE, TUPLES, WALL, Asked, Shape, Verdict, World, key_of, model_of
 
 PATHS = (b"/stores/S/check", b"/stores/S/%63heck", b"/stores/%53/check#x", b"http://host/stores/S/check?x", b"/stores/S/./check")
+# Not all services take these for checks; this one does.
+LOOSE = (b"/stores/S/CHECK", b"/stores/S/check;x", b"/stores/S/check%20")
 # Headers by which some say that a body of so many bytes follows, and others that none does.
 STRANGE = (b"X: y\nContent-Length: %d", b"X: y\rContent-Length: %d", b"Content-Length: 0\r\nContent-Length: %d", b"Content-Length : %d",
            b"X: y\r\n Content-Length: %d", b"Content-Length: +%d", b"Content-Length: %d\r\nTransfer-Encoding: chunked")
 WIRES = 3
-OFTEN = {"strange": 0.2, "odd": 0.1, "long": 0.05, "fails": 0.05, "cut": 0.05, "ends": 0.05}
+OFTEN = {"strange": 0.2, "loose": 0.1, "odd": 0.1, "long": 0.05, "fails": 0.05, "cut": 0.05, "ends": 0.05}
 # How many bytes of an answer are kept, and may wait at each place, in place of megabytes; how late things are given up, in steps.
 BODY, ROOM, PIPE, AGAIN, LAST = 2000, 1500, 500, 20, 60
 # How many files there may be open beside one for each client.
@@ -124,6 +126,9 @@ class Kept(Keeper):
     def say(self, text):
         self.world.said.append(text)
 
+    def wall(self, at):
+        return self.world.wall(at)
+
     def work(self):
         """Takes what has come."""
         if self.is_busy or not self.is_open:
@@ -136,7 +141,7 @@ class Kept(Keeper):
             self._write()
         self.is_busy = False
         if self.core.is_over and self.gone_at is None:
-            self.core.end_asked(core.Now(WALL + self.world.now, self.world.now))
+            self.core.end_asked(self.world._at())
             self.gone_at = self.world.now / 1e9
         if self.end.data or self.end.is_ended and not self.core.is_over:
             self.end.move()
@@ -167,10 +172,14 @@ class Source:
     def changes(self, store, size, token):
         world = self.world
         world.wait(0, 3)
-        listed, cursor = world.service.page(world.now, tuple(map(int, token.split("."))) if token else (0, 0), size)
+        *before, other = map(int, token.split(".")) if token else (0, 0, 0)
+        listed, cursor = world.service.page(world.now, tuple(before), min(size, world.cap))
+        if listed and world.empties.random() < world.often_empty:
+            # Nothing, and another token.
+            listed, cursor, other = [], tuple(before), other + 1
         world.found += listed
         world.wait(0, 2)
-        return {"continuation_token": "%d.%d" % cursor, "changes": [
+        return {"continuation_token": "%d.%d.%d" % (*cursor, other), "changes": [
             {"tuple_key": key_of(given), "operation": "TUPLE_OPERATION_" + ("WRITE" if live else "DELETE"), "timestamp": text_of_time(WALL + stamped)}
             for _, _, given, live, _, stamped in listed]}
 
@@ -196,6 +205,9 @@ class Whole(World):
         self.relay, self.teller, self.kept, self.nexts, self.again_at = None, None, None, deque(), None
         self.is_full = self.tears = self.is_ending = self.has_lost_keeper = self.is_left_open = False
         self.pipe = PIPE if has_troubles else 1 << 20
+        # how many changes the service gives at most, and how often it gives none although there are some
+        self.empties = Random("pages %d" % seed)
+        self.cap, self.often_empty = self.empties.choice((1000, 1000, 1, 3)), self.empties.choice((0, 0, 0.2))
         # when the recorder refused a connection, or did not serve one; and writes by when they had their answers
         self.refused, self.writes = [], {}
 
@@ -364,7 +376,7 @@ class Whole(World):
             if self.again_at is not None and self.now > self.again_at:
                 self._start_keeper()
         if self.kept is not None and self.kept.is_open and not self.kept.is_busy:
-            self.core.tick(core.Now(WALL + self.now, self.now))
+            self.core.tick(self._at())
             self.kept.inbox.append(Beat(0))
             self.kept.work()
 
@@ -416,7 +428,7 @@ class Whole(World):
         else:
             self.teller.end.room = 1 << 20
             self.teller.catch_up()
-            self.teller.tell(Bye(WALL + self.now))
+            self.teller.tell(Bye(self.wall()))
             self.teller.flush()
             if self.teller.end is not None:
                 self.teller.end.close()
@@ -539,7 +551,7 @@ class Whole(World):
             headers.append(b"X-Content-Version:" + label_of(asked.shows).encode() + b" ")
         if asked.is_odd:
             headers += self.random.choice(([b"X-Content-Version: a", b"X-Content-Version: b"], [b"X-Content-Save: a", b"X-Content-Version: b"]))
-        path = self.random.choice(PATHS)
+        path = self.random.choice(LOOSE if self._is("loose") else PATHS)
         if asked.is_elsewhere:
             path = path.replace(b"/S/", b"/T/").replace(b"/%53/", b"/%54/")
         return message(self.random, b"POST %s HTTP/1.1" % path, headers, json.dumps(body).encode())
@@ -575,28 +587,32 @@ class OfWhole(Verdict):
         self.spans, self.elsewhere, self.written = [], 0, Counter()
         super().__init__(world)
         if world.is_left_open:
-            last = max((nanoseconds(row["time"]) for row in self.rows if "time" in row and row["event"] != "write"), default=0) - WALL
-            self.spans.append((last - world.shape.hold - 11 * STEP, 1 << 60))
+            # By a clock that was set nobody knows when the last line was written.
+            last = max((nanoseconds(row["time"]) for row in self.rows if "time" in row and row["event"] != "write"), default=0)
+            self.spans.append((0 if world.set_by else last - world.shape.hold - 11 * STEP, 1 << 62))
 
     def _take(self, row):
         super()._take(row)
         if row["event"] == "gap":
-            self.spans.append(((nanoseconds(row.get("from")) or WALL) - WALL - 1000, nanoseconds(row["to"]) - WALL + 1000))
+            # Where the clock had been set back when a recorder began, nobody knows how long it was before that.
+            is_open = row.get("from") is None and self.world.set_by < 0
+            self.spans.append(((nanoseconds(row.get("from")) or 0) - 1000, 1 << 62 if is_open else nanoseconds(row["to"]) + 1000))
         elif row["event"] == "elsewhere":
             self.elsewhere += row["count"]
         elif row["event"] == "write":
             self.written.update((tuple(one), side == "add") for side in ("add", "remove") for one in row.get(side, ()))
 
     def _is_in_gap(self, since, until):
+        since, until = sorted((self.world.wall(since), self.world.wall(until)))
         return any(start <= until and since <= end for start, end in self.spans)
 
     def _of_counts(self, answered):
         world = self.world
         yield from world.faulty
-        yield from self._of_lines({time_text(WALL + one.ended): one for one in answered})
+        yield from self._of_lines({time_text(world.wall(one.ended)): one for one in answered})
         here = [one for one in answered if not one.is_elsewhere or not world.ignores]
         for one in here:
-            if time_text(WALL + one.ended) not in self.entries and not self._is_in_gap(one.sent_at, one.ended):
+            if time_text(world.wall(one.ended)) not in self.entries and not self._is_in_gap(one.sent_at, one.ended):
                 yield "a check is neither in the log nor in a gap (check %d)" % one.number
         elsewhere = [one for one in answered if one.is_elsewhere and world.ignores]
         surely = sum(not self._is_in_gap(one.sent_at, one.ended) for one in elsewhere)
@@ -619,6 +635,9 @@ class OfWhole(Verdict):
                 yield "a line is none of the check that was answered then"
 
     def _of_check(self, one, row, behind):
+        if one.world is None:
+            yield "a line is of a check that was told to no keeper (check %d)" % one.number
+            return
         yield from super()._of_check(one, row, behind)
         named = one.shows or (one if one.save and one.reply else None)
         if row.get("version") != (named and label_of(named)):
@@ -630,5 +649,7 @@ def run_whole(seed, shape=None, has_troubles=None):
     shape = shape or Shape(Random("shape %d" % seed))
     shape.shows = True
     with tempfile.TemporaryDirectory(dir="/dev/shm" if os.path.isdir("/dev/shm") else None) as folder:
-        world = Whole(seed, shape, folder, seed % 2 == 1 if has_troubles is None else has_troubles).run()
+        world = Whole(seed, shape, folder, seed % 2 == 1 if has_troubles is None else has_troubles)
+        world.set_clock(seed)
+        world.run()
         return world, OfWhole(world)

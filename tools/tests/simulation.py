@@ -30,6 +30,8 @@ from new_enemy_tools.recording.stored import Stored
 WALL = 1_700_000_000 * 10 ** 9
 # A step of time, by which all that happens differs.
 STEP = 1_000_000
+# So far a clock may be set, which is longer than any run takes.
+HOUR = 3600 * 10 ** 9
 STORE = "S"
 THIS, MEMBER, USER = {"this": {}}, {"type": "group", "relation": "member"}, {"type": "user"}
 MODEL = {"schema_version": "1.1", "id": "M", "type_definitions": [
@@ -160,6 +162,18 @@ class World:
         self.is_over = self.is_killed = False
         # how many models were read
         self.model = 0
+        # when the clock of the wall is set, and by how much
+        self.set_at, self.set_by = 0, 0
+
+    def set_clock(self, seed):
+        """The clock of the wall is set back or forward, in each second run."""
+        random = Random("clock %d" % seed)
+        self.set_at, self.set_by = random.randint(5, self.shape.length) * STEP, random.choice((0, 0, -HOUR, HOUR))
+
+    def wall(self, at=None):
+        """What the clock of the wall says."""
+        at = self.now if at is None else at
+        return WALL + at + (self.set_by if at >= self.set_at else 0)
 
     def in_doubt(self):
         """The tuples of which the recorder knows that it does not know whether they are there."""
@@ -214,7 +228,7 @@ class World:
         return self
 
     def _at(self):
-        return Now(WALL + self.now, self.now)
+        return Now(self.wall(), self.now)
 
     def _tell(self, way, message):
         """A message comes later, behind those of its way."""
@@ -346,7 +360,7 @@ class World:
             body.setdefault("writes" if live else "deletes", {"tuple_keys": []})["tuple_keys"].append(key_of(given))
         self.known.append((self.now, committed))
         self.whole.add(committed)
-        self._tell("proxy", Ended(number, "write", "/stores/S/write", WALL + asked, WALL + self.now, self.now, None, None, None, 200,
+        self._tell("proxy", Ended(number, "write", "/stores/S/write", self.wall(asked), self.wall(), self.now, None, None, None, 200,
                                   json.dumps(body).encode(), b"{}", None))
 
     def _check(self):
@@ -391,7 +405,7 @@ class World:
         body = {"tuple_key": {"user": "user:" + user, "relation": relation, "object": "%s:%s" % (kind, name)}}
         if asked.newest:
             body["consistency"] = "HIGHER_CONSISTENCY"
-        self._tell("proxy", Ended(asked.number, "check", "/stores/S/check", WALL + asked.began, WALL + self.now, self.now,
+        self._tell("proxy", Ended(asked.number, "check", "/stores/S/check", self.wall(asked.began), self.wall(), self.now,
                                   "v%d" % asked.number if asked.save else None, asked.shows and "v%d" % asked.shows.number, None, 200,
                                   json.dumps(body).encode(), json.dumps({"allowed": asked.reply}).encode(), None))
 
@@ -521,7 +535,7 @@ class Verdict:
         if not self.states[-1] ^ self.world.service.states[-1] <= self.world.in_doubt() and not self.lost:
             found.append("the changes in the log leave another state than the service has")
         for one in answered:
-            entry = self.entries.get(time_text(WALL + one.ended))
+            entry = self.entries.get(time_text((one.world or self.world).wall(one.ended)))
             # What hangs on a tuple that is in doubt is left out by an import.
             if entry is not None and not any(of == "group" or thing == one.goal[1] for of, thing in self.doubts):
                 found += self._of_check(one, *entry)
@@ -609,5 +623,7 @@ def run_apart(seed, **values):
 
 def run(seed, shape=None):
     """The faults of one run."""
-    world = World(seed, shape or Shape(Random("shape %d" % seed))).run()
+    world = World(seed, shape or Shape(Random("shape %d" % seed)))
+    world.set_clock(seed)
+    world.run()
     return world, Verdict(world)

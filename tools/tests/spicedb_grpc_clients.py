@@ -21,7 +21,7 @@ LONG = 120
 
 class Client:
     def __init__(self, port, ca=None):
-        target, options = "127.0.0.1:%s" % port, [("grpc.use_local_subchannel_pool", 1)]
+        target, options = "127.0.0.1:%s" % port, [("grpc.use_local_subchannel_pool", 1), ("grpc.max_metadata_size", 16 << 20)]
         if ca is None:
             self.channel = grpc.insecure_channel(target, options)
         else:
@@ -79,11 +79,13 @@ def unchanged(port, ca):
     client = Client(port, ca)
     answer, call = client.ask("CheckPermission", {"consistency": FULL, **asked("u0", "view", "d0")})
     found = [answer["permissionship"], dict(call.initial_metadata()).get("x-first")]
-    for metadata, name in (((("x-refuse", "1"),), "CheckPermission"), ((), "ExpandPermissionTree")):
+    # Tokens of users may be long.
+    for metadata, name in (((("x-refuse", "1"), ("x-long", "y" * 20_000)), "CheckPermission"), ((), "ExpandPermissionTree")):
         try:
             client.channel.unary_unary(PERMISSIONS + name)(b"", metadata=metadata, timeout=LONG)
         except grpc.RpcError as fault:
-            found += [fault.code().name, fault.details(), dict(fault.trailing_metadata()).get("x-why")]
+            trailing = dict(fault.trailing_metadata())
+            found += [fault.code().name, fault.details(), trailing.get("x-why"), len(trailing.get("x-long", ""))]
     print(found)
 
 

@@ -76,7 +76,7 @@ class Handler(grpc.GenericRpcHandler):
             if self.service_.key and metadata.get("authorization") != "Bearer " + self.service_.key:
                 context.abort(grpc.StatusCode.UNAUTHENTICATED, "no key")
             if metadata.get("x-refuse"):
-                context.set_trailing_metadata((("x-why", "asked for"),))
+                context.set_trailing_metadata((("x-why", "asked for"), ("x-long", metadata.get("x-long", ""))))
                 context.abort(grpc.StatusCode.FAILED_PRECONDITION, "refused as asked")
             context.send_initial_metadata((("x-first", "1"),))
             answer = Answer(metadata)
@@ -98,7 +98,8 @@ def main(words):
             service = OpenFga(json.load(file), faults, key)
     else:
         service = SpiceDb(faults, key, Numbers())
-    server = grpc.server(ThreadPoolExecutor(32), (Handler(service),))
+    # As much metadata as gRPC's libraries in Go let pass.
+    server = grpc.server(ThreadPoolExecutor(32), (Handler(service),), options=[("grpc.max_metadata_size", 16 << 20)])
     found = server.add_insecure_port("127.0.0.1:" + port)
     server.start()
     sys.stdout.write("ready %d\n" % found)

@@ -5,6 +5,9 @@ from unittest import mock
 
 from new_enemy_tools.importing import causes, yaml_files
 from new_enemy_tools.importing.located import Malformed
+from new_enemy_tools.importing.openfga_answers import answers_of
+from new_enemy_tools.importing.reading import Bad
+from new_enemy_tools.importing.refusals import Refusals
 from new_enemy_tools.importing.yaml_files import parse_yaml, yaml
 from tests.support import Case
 from tests.test_openfga import MODEL, THIS, change
@@ -52,6 +55,21 @@ class OpenFga(CallsCase):
         # The other three are decisions on what nobody asked.
         self.assertEqual(self.unaudited(*words), ["not audited: %s, first at log:3: doc:1#viewer@user:a" % causes.UNREADABLE,
                                                   "not audited 4: %s" % causes.UNREADABLE])
+
+    def test_answers_of_another_form(self):
+        """A list that is left out has nothing in it, but not where the answer says something else; what was decided was, also beside an error."""
+        objects = {"type": "doc", "relation": "viewer", "user": "user:a"}
+        users = {"object": {"type": "doc", "id": "1"}, "relation": "viewer", "user_filters": [{"type": "user"}]}
+        for request, name in (objects, "objects"), (users, "users"):
+            for response in {}, {name: []}, {name: None}, {name: [], "more": 1}:
+                self.assertEqual(list(answers_of(request, response, Refusals())), [])
+            for response in {"others": ["doc:1"]}, {name: {}}, {name: "doc:1"}:
+                with self.assertRaises(Bad):
+                    list(answers_of(request, response, Refusals()))
+        batch = {"checks": [key("user:a") | {"correlation_id": "a"}]}
+        results = {"a": {"allowed": True, "error": {"message": "x"}}, "b": {"allowed": True, "error": {"message": "x"}}}
+        self.assertEqual([(one.goal.user_id, one.reply, one.unmapped) for one in answers_of(batch, {"result": results}, Refusals())],
+                         [("a", True, None), ("?", False, causes.UNREADABLE)])
 
     def test_one_of_many_that_cannot_be_read_costs_no_other(self):
         checks = [key("user:%s" % name) | {"correlation_id": name} for name in "abc"]

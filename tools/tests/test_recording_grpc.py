@@ -13,8 +13,9 @@ from random import Random
 from types import ModuleType, SimpleNamespace
 from unittest import mock
 
-from new_enemy_tools.recording.grpc_calls import CALLS, answered, asked, joined
-from new_enemy_tools.recording.messages import Ended
+from new_enemy_tools.importing.reading import Bad
+from new_enemy_tools.recording.grpc_calls import CALLS, GRPC, answered, asked, joined, may_decide
+from new_enemy_tools.recording.messages import UNKNOWN_CALL, Ended
 from new_enemy_tools.recording.openfga import NOT_NAMED
 from new_enemy_tools.recording import openfga_messages, spicedb_messages
 from new_enemy_tools.recording.protobuf import Malformed
@@ -85,7 +86,7 @@ class Grpc(Recorded):
         through = self.clients()
         self.port = self.service_port
         self.assertEqual(through, self.clients())
-        self.assertIn("'FAILED_PRECONDITION', 'refused as asked', 'asked for'", through)
+        self.assertIn("'FAILED_PRECONDITION', 'refused as asked', 'asked for', 20000", through)
         self.end(recorder)
 
 
@@ -196,6 +197,18 @@ class Cut(Case):
         given = [("te", "trailers"), ("tenant-id", "t"), ("user-agent", "a"), ("user-agent-of", "b"), ("content-type", "c"), ("grpc-timeout", "1S")]
         asyncio.run(relay.pass_on("/other", None, SimpleNamespace(invocation_metadata=lambda: given)))
         self.assertEqual(passed, [[("tenant-id", "t"), ("user-agent-of", "b")]])
+
+    def test_a_call_that_is_not_known(self):
+        """It is counted where it ended well."""
+        lost, ends = [], [True, False]
+        relay = self.module.GrpcRelay(None, SimpleNamespace(lose=lost.append))
+
+        async def passed(*words):
+            return ends.pop()
+        relay._passed = passed
+        for _ in range(2):
+            asyncio.run(relay.pass_on("/openfga.v1.OpenFGAService/Evaluate", None, SimpleNamespace(invocation_metadata=lambda: ())))
+        self.assertEqual(lost, [UNKNOWN_CALL])
 
     def test_by_its_client(self):
         self.assertEqual(self.told(0, asyncio.CancelledError(), False), [(0, None)])
@@ -308,8 +321,27 @@ class Protobuf(Case):
                 told.append(OPENFGA.read(shape, data))
             except Malformed as fault:
                 told.append(str(fault))
+        with self.assertRaisesRegex(Malformed, "Consistency has a field that is not known"):
+            SPICEDB.read("CheckPermissionRequest", b"\x0a\x02\x28\x01")
         self.assertEqual(told, ["TupleKey has a field that is not known (5)", "CheckRequest has a field that is not known (9)",
                                 "TupleKey has a field twice (user)", {"allowed": True}])
+
+    def test_calls_that_may_decide(self):
+        store, permissions, other = ("/%s/" % name for name in (
+            "openfga.v1.OpenFGAService", "authzed.api.v1.PermissionsService", "authzed.api.v1.ExperimentalService"))
+        for name in (store + "Evaluate", store + "StreamedListUsers", permissions + "LookupAll", other + "BulkCheckAll"):
+            self.assertTrue(may_decide(name), name)
+        for name in (store + "Check", store + "Read", store + "ReadChanges", store + "Expand", permissions + "ExpandPermissionTree",
+                     permissions + "CheckPermission", permissions + "ReadRelationships", other + "BulkImportRelationships",
+                     "/authzed.api.v1.SchemaService/ReadSchema", "/authzed.api.v1.WatchService/Watch", "/grpc.health.v1.Health/Check", "/other"):
+            self.assertFalse(may_decide(name), name)
+
+    def test_several_messages_where_one_should_be(self):
+        path = "/authzed.api.v1.PermissionsService/CheckPermission"
+        for read, messages in ((asked, []), (asked, [b"", b""]), (answered, []), (answered, [b"", b""])):
+            data = joined(messages)
+            with self.assertRaisesRegex(Bad, "a call with %d " % len(messages)):
+                read(Ended(1, "check", path, 0, 0, 0, None, None, None, 200, data, data, GRPC))
 
     def test_messages_of_a_call(self):
         path = next(path for path, call in CALLS.items() if call.name == "LookupResources")

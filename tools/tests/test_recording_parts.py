@@ -16,18 +16,20 @@ from unittest import mock
 from urllib.parse import urlsplit
 
 from new_enemy_tools.importing.chained import end_of, head_of
+from new_enemy_tools.importing.events import Relationship
 from new_enemy_tools.importing.reading import Bad
+from new_enemy_tools.importing.service import Answer
 from new_enemy_tools.importing.times import nanoseconds
 from new_enemy_tools.recording.asking import FeedFault
-from new_enemy_tools.recording.core import FULL, Core, Now
+from new_enemy_tools.recording.core import FULL, SET, Core, Now
 from new_enemy_tools.recording.http_reading import BODY, Head, Messages, Strange, path_of
 from new_enemy_tools.recording.keeper import Settings
-from new_enemy_tools.recording.log_files import LATER, InUse, LogFault, LogFiles, Place
+from new_enemy_tools.recording.log_files import LATER, InUse, Left, LogFault, LogFiles, Place
 from new_enemy_tools.recording.lines import gap_line, line, write_line
-from new_enemy_tools.recording.messages import Beat, Bye, Ended, Lost, Started, Teller, messages_from, packed
+from new_enemy_tools.recording.messages import UNKNOWN, Beat, Bye, Ended, Lost, Started, Teller, messages_from, packed
 from new_enemy_tools.recording.relay import Relay
 from new_enemy_tools.recording.openfga import asks_for_newest, call_of as openfga_call
-from new_enemy_tools.recording.openfga_feed import PAGE, OpenFgaFeed
+from new_enemy_tools.recording.openfga_feed import EMPTY, PAGE, OpenFgaFeed
 from new_enemy_tools.recording.sequencer import Commit, Known, Sequencer
 from new_enemy_tools.recording.spicedb import call_of as spicedb_call
 from new_enemy_tools.recording.spicedb_http import HttpSource
@@ -102,10 +104,16 @@ class Reading(Case):
                      post + b"A: b\r\n folded\r\n\r\n", post + b"Content-Length: +2\r\n\r\n{}", chunked + b"+1\r\na\r\n0\r\n\r\n",
                      chunked + b"0x1\r\na\r\n0\r\n\r\n", chunked + b"1_0\r\n", chunked + b"1\na\r\n0\r\n\r\n", chunked + b"1\r\nab\r\n0\r\n\r\n",
                      post + b"A: b\x0bc\r\n\r\n", post + b"A: \x7f\r\n\r\n", chunked + b"0\r\nbad trailer\r\n\r\n", chunked + b"0\r\nA : b\r\n\r\n",
-                     b"\x16\x03\x01", b"POST /x HTTP/1.0\r\nTransfer-Encoding: chunked\r\n\r\n0\r\n\r\n"):
+                     chunked + b"0\r\nX-Content-Version: v\r\n\r\n", b"\x16\x03\x01", b"POST /x HTTP/1.0\r\nTransfer-Encoding: chunked\r\n\r\n0\r\n\r\n"):
             for size in (1, 3, len(data)):
                 with self.subTest(data=data, size=size), self.assertRaises(Strange):
                     read_along(data + b"GET /later HTTP/1.1\r\n\r\n", lambda size=size: size)
+
+    def test_a_body_in_pieces_of_one_byte(self):
+        """What is left is not copied for each of them: that took minutes, in which nobody else was served."""
+        data, began = b"POST /x HTTP/1.1\r\nTransfer-Encoding: chunked\r\n\r\n" + b"1\r\nx\r\n" * 300_000 + b"0\r\n\r\n", time.process_time()
+        self.assertEqual(read_along(data, lambda: len(data))[1], [b"x" * 300_000])
+        self.assertLess(time.process_time() - began, 20)
 
     @unittest.skipUnless(importlib.util.find_spec("h11"), "h11 is not installed")
     def test_no_session_is_read_in_another_way_than_by_h11(self):
@@ -132,11 +140,21 @@ class Reading(Case):
 
     def test_which_calls(self):
         self.assertEqual([openfga_call("POST", "/stores/A/" + call) for call in ("check", "batch-check", "write", "expand", "check/x")],
-                         ["check", "batch", "write", None, None])
-        self.assertIsNone(openfga_call("GET", "/stores/A/check"))
+                         ["check", "batch", "write", None, UNKNOWN])
         self.assertEqual(openfga_call("POST", "/prefix/stores/A/streamed-list-objects"), "stream")
-        self.assertEqual([spicedb_call("POST", path) for path in ("/v1/permissions/check", "/api/v1/a/v1/permissions/resources", "/v1/watch")],
-                         ["check", "stream", None])
+        self.assertEqual([spicedb_call("POST", path) for path in ("/v1/permissions/check", "/api/v1/a/v1/permissions/resources", "/v1/watch",
+                                                                  "/v1/permissions/expand", "/v1/permissions/checkall")],
+                         ["check", "stream", None, None, UNKNOWN])
+
+    def test_calls_that_may_decide(self):
+        """Those that are not known, and those that only some services read as known ones; none that says what is stored."""
+        for path in ("check;x", "check%20", "%63heck", "CHECK", "check:x", "access/v1/evaluation", "reads"):
+            self.assertEqual(openfga_call("POST", path_of("/stores/A/" + path.replace("%63", "%2563"))), UNKNOWN, path)
+        self.assertEqual([openfga_call(method, "/stores/A/check") for method in ("GET", "post", "PUT", "OPTIONS", "HEAD")], [UNKNOWN] * 3 + [None] * 2)
+        for path in ("", "/", "/read", "/Read", "/authorization-models", "/authorization-models/M", "/assertions/M", "/changes", "/expand"):
+            self.assertEqual([openfga_call(method, path_of("/stores/A" + path)) for method in ("GET", "POST", "DELETE")], [None] * 3, path)
+        self.assertEqual([spicedb_call("GET", path) for path in ("/v1/permissions/check", "/v1/schema/read", "/V1/experimental/permissions/x")],
+                         [UNKNOWN, None, UNKNOWN])
 
 
 class Still(io.RawIOBase):
@@ -203,6 +221,25 @@ class Asking(Case):
         for answer, is_whole in ((self.CHUNKED + b"0\r\n\r\n", True), (b"Content-Length: 19\r\n\r\n" + line, True), (self.CHUNKED, False),
                                  (b"Content-Length: 38\r\n\r\n" + line, False), (b"\r\n" + line, False)):
             self.assertEqual(self.fault(answer) is None, is_whole, answer)
+
+    def pages_of(self, *pages):
+        """The changes that are read of such pages, each with what is on it and its token; and how many were asked for."""
+        asked = iter([*pages, ("more", "")] + [("", "")] * EMPTY)
+        source = mock.Mock(changes=lambda store, size, cursor: dict(zip(("changes", "continuation_token"), next(asked))))
+        feed = OpenFgaFeed(Settings("openfga", "", "", "S", None, False, 30, 0.05, 0, 1, 1), source)
+        with mock.patch("new_enemy_tools.recording.openfga_feed._change", str):
+            found = ["".join(page) for page, _ in feed._pages(None)]
+        return found, len(pages) + 1 + EMPTY - len(list(asked))
+
+    def test_pages_that_are_shorter_than_they_may_be(self):
+        """A service may give fewer changes than it was asked for, or none, and go on; the end is where a page is shorter than another one, or
+        where it ends with its own token. What is written faster than it is read has an end too."""
+        self.assertEqual(self.pages_of(("abc", "3"), ("def", "6"), ("gh", "8")), (["abc", "def", "gh"], 3))
+        self.assertEqual(self.pages_of(("abc", "3"), ("", "4"), ("", "5"), ("d", "6")), (["abc", "d"], 4))
+        self.assertEqual(self.pages_of(("abc", "3"), ("", "3")), (["abc"], 2))
+        self.assertEqual(self.pages_of(("", "")), ([], 1))
+        with self.assertRaisesRegex(FeedFault, "do not end"):
+            self.pages_of(*(("", str(number)) for number in range(EMPTY)))
 
     def test_pages_that_do_not_go_on(self):
         page = {"changes": [{}] * PAGE, "continuation_token": "t"}
@@ -295,6 +332,38 @@ class Order(Case):
         core.lose("why", 3 * 10 ** 9)
         gap = json.loads(core.gaps.lines(core.now, True))
         self.assertEqual((gap["from"], gap["to"]), ("1970-01-01T00:00:01.000000Z", "1970-01-01T00:00:03.000000Z"))
+
+    def test_a_version_that_is_shown_when_the_clock_was_set_back(self):
+        """The gap of its content begins before the time by which it was shown; that of a later recorder has no beginning."""
+        core = Core(mock.Mock(), 30)
+        core.take(Beat(0), Now(100 * 10 ** 9, 10 ** 9))
+        core.take(Lost(100 * 10 ** 9, 100 * 10 ** 9, 1, "why"), Now(50 * 10 ** 9, 2 * 10 ** 9))
+        gap = json.loads(core.gaps.lines(core.now, True))
+        self.assertEqual((gap["from"], gap["to"]), ("1970-01-01T00:00:49.000000Z", "1970-01-01T00:02:31.000000Z"))
+        self.assertEqual([core.earliest(3 * 10 ** 9), core.latest(3 * 10 ** 9)], [51 * 10 ** 9, 102 * 10 ** 9])
+        core.is_first, core.left = False, Left(Place(None, 0, None), 0, 0, "1970-01-01T00:02:00Z", 0)
+        gap = json.loads(core._gap_before(0))
+        self.assertEqual((gap.get("from"), gap["to"]), (None, "1970-01-01T00:02:00.000000Z"))
+
+    def test_a_clock_that_is_set_is_told(self):
+        """Around that, by either time, something may be lost when the recorder is killed; a clock that is read a little late was not set."""
+        for wall in 50, 300:
+            core = Core(mock.Mock(), 30)
+            core.is_ready = True
+            for now in Now(100 * 10 ** 9, 10 ** 9), Now(101 * 10 ** 9 - 5_000_000, 2 * 10 ** 9), Now(wall * 10 ** 9, 3 * 10 ** 9):
+                core.take(Beat(0), now)
+            gap, = map(json.loads, core.unsaid)
+            self.assertEqual((gap["reason"], nanoseconds(gap["from"]), nanoseconds(gap["to"])), (
+                SET, (min(wall, 102) - 30) * 10 ** 9, max(wall, 102) * 10 ** 9))
+
+    def test_what_waits_is_not_given_up_where_the_clock_is_set_forward(self):
+        core = Core(mock.Mock(late=mock.Mock(return_value=[])), 30)
+        core.is_ready = True
+        message = Ended(2, "check", "", 0, 0, 10 ** 9, None, None, None, 200, None, None, None)
+        core.put_entries(message, [Answer(Relationship("d", "1", "v", "u", "a"), True, None)], 9)
+        for wall, clock, waiting in ((10 ** 9, 10 ** 9, 1), (10 ** 12, 2 * 10 ** 9, 1), (10 ** 12, 32 * 10 ** 9, 0)):
+            core.tick(Now(wall, clock))
+            self.assertEqual(len(core.sequencer.ready), waiting)
 
     def test_what_was_known_when(self):
         for seed in range(100):

@@ -127,12 +127,14 @@ class OfSpiceDb(Case):
         source = mock.Mock(schema=lambda: (self.SCHEMA, self.token(FIRST)["token"]), relationships=lambda of, token: relationships)
         self.service = SpiceDb()
         self.core = Core(self.service, 30)
-        self.core.take(SpiceDbFeed(source)._base(None), Now(1, 1))
+        base = SpiceDbFeed(source)._base(None)
+        self.odd = [reason for _, reason in base.stored.items() if reason]
+        self.core.take(base, Now(1, 1))
         self.core.drained()
 
-    def check(self, number, at):
+    def check(self, number, at, **consistency):
         """One that saw what Watch has not given."""
-        request = {"consistency": {"fullyConsistent": True}, "resource": {"objectType": "document", "objectId": "d"}, "permission": "viewer",
+        request = {"consistency": consistency or {"fullyConsistent": True}, "resource": {"objectType": "document", "objectId": "d"}, "permission": "viewer",
                    "subject": {"object": {"objectType": "user", "objectId": "u"}}, "context": {"pad": "x" * 100_000}}
         answer = {"checkedAt": self.token(FIRST + 9 * STEP), "permissionship": "PERMISSIONSHIP_HAS_PERMISSION"}
         self.core.take(Started(number, at, False, "check"), Now(at, at))
@@ -144,6 +146,16 @@ class OfSpiceDb(Case):
         self.check(1, 5)
         (one,) = self.service.pending
         self.assertEqual((one.message.request, one.message.response, one.request), (None, None, {"consistency": {"fullyConsistent": True}}))
+
+    def test_what_is_not_known_of_a_demand_or_of_a_relationship(self):
+        """A check whose demand can't be read is counted, and a relationship that says more than is known has no form."""
+        given = {"resource": {"objectType": "document", "objectId": "d"}, "relation": "viewer",
+                 "subject": {"object": {"objectType": "user", "objectId": "u"}}}
+        self.begin(given, {**given, "optionalHours": 3})
+        self.check(1, 5, atLeastAsNew={"token": "t"})
+        self.check(2, 5, at_least_as_fresh=self.token(FIRST))
+        self.assertEqual((self.core.lost, len(self.core.held)), ({"Consistency has a field that is not known (atLeastAsNew)": 1}, 1))
+        self.assertEqual(list(self.odd), ["Relationship has a field that is not known (optionalHours)"])
 
     def test_how_many_decisions_wait(self):
         self.begin()

@@ -5,17 +5,18 @@ import json
 import os
 import socket
 import threading
+import time
 from itertools import chain
 from random import Random
 from unittest import mock
 from urllib.parse import urlsplit
 
 from new_enemy_tools.importing.reading import Bad
-from new_enemy_tools.recording.bodies import body_of
+from new_enemy_tools.recording.bodies import body_of, request_of
 from new_enemy_tools.recording.messages import Ended, Started, Teller, messages_from
 from new_enemy_tools.recording.openfga import call_of
 from new_enemy_tools.recording.reader import Reader
-from new_enemy_tools.recording.relay import Relay
+from new_enemy_tools.recording.relay import LEAST, Relay, Side
 from tests.support import Case
 
 HEAD = b"POST /stores/A/check HTTP/1.1\r\nHost: x\r\nAuthorization: Bearer z\r\nX-Content-Save: v1\r\n"
@@ -146,6 +147,18 @@ class Unchanged(Case):
         self.assertEqual((told[-1].number, told[-1].status, told[-1].response), (told[0].number, 200, None))
 
 
+class Turns(Case):
+    def test_what_takes_long_to_read_is_taken_in_smaller_pieces(self):
+        """So that other connections have their turn between them."""
+        side, sizes = Side(mock.Mock(), mock.Mock(), True), []
+        side.take = lambda data: None
+        for took in (0.1, 0.1, 0.1, 0.001, 0, 0, 0, 0):
+            with mock.patch("new_enemy_tools.recording.relay.time.thread_time", side_effect=[5.0, 5.0 + took]):
+                side.buffer_updated(LEAST)
+            sizes.append(len(side.get_buffer(-1)) >> 10)
+        self.assertEqual(sizes, [16, 8, 8, 8, 16, 32, 64, 64])
+
+
 class Ends(Case):
     def test_a_connection_that_comes_while_the_recorder_ends(self):
         """It is closed: the system had taken it, and what it asks would be answered when the keeper has been told that nothing more comes."""
@@ -208,6 +221,25 @@ class Beginning(Case):
         self.assertEqual((self.answers(b"HTTP/1.1 100 Continue\r\n\r\n"), self.asks(b"{"), self.told), (b"", b"", []))
         self.assertEqual((self.asks(b"}"), self.kinds()), (b"{}", ["Started"]))
 
+    def test_an_answer_before_the_body_that_it_asks_for(self):
+        """Nobody could have looked at what the body asks, so it is counted where it is no refusal; the body goes on all the same."""
+        head = HEAD + b"Expect: 100-continue\r\nContent-Length: 2\r\n\r\n"
+        for answer, told in ((OK, ["an answer that came before its request had been passed on"]), (OK.replace(b"200", b"401"), [])):
+            self.setUp()
+            self.asks(head)
+            self.answers(answer)
+            self.assertEqual((self.asks(b"{}"), self.told), (b"{}", told))
+
+    def test_a_call_that_is_not_known(self):
+        """It is counted where it was answered, also by half."""
+        request, unknown = self.REQUEST.replace(b"/check", b"/check;x"), "a call that the recorder does not know, which was answered"
+        for answer, told in ((OK, [unknown]), (OK.replace(b"200", b"404"), []), (OK[:-1], [unknown]), (b"", [])):
+            self.setUp()
+            self.assertEqual(self.asks(request), request)
+            self.answers(answer)
+            self.reader.end()
+            self.assertEqual(self.told, told)
+
     def test_a_check_behind_another(self):
         self.assertEqual(self.asks(self.REQUEST * 2), self.REQUEST)
         self.assertEqual(self.kinds(), ["Started"])
@@ -224,12 +256,23 @@ class Beginning(Case):
                 size = random.randint(1, 60)
                 got += self.asks(data[at:at + size])
                 at += size
+                self.assertEqual(self.reader.waits(), min(at, len(data)) - len(got))
                 if random.random() < 0.3 and self.reader.exchanges and self.reader.exchanges[0].is_passed \
                         and not self.reader.exchanges[0].held and self.reader.exchanges[0].is_whole:
                     got += self.answers(OK)
             while self.reader.exchanges:
                 got += self.answers(OK)
             self.assertEqual((got, self.kinds()), (data, ["Started", "Ended"] * 2))
+
+    def test_many_requests_behind_one_another(self):
+        """What waits is not counted anew with each answer."""
+        request, began = b"GET / HTTP/1.1\r\n\r\n", time.process_time()
+        self.asks(request * 30_000)
+        for _ in range(30_000):
+            self.answers(b"HTTP/1.1 200 OK\r\nContent-Length: 0\r\n\r\n")
+            self.reader.waits()
+        self.assertEqual((self.reader.waits(), len(self.reader.exchanges)), (0, 0))
+        self.assertLess(time.process_time() - began, 20)
 
     def test_a_request_that_breaks_off(self):
         """What came goes on as it came; where it is answered all the same, it is a gap."""
@@ -300,6 +343,16 @@ class Beginning(Case):
             self.asks(b"POST %s HTTP/1.1\r\nContent-Length: 2\r\n\r\n{}" % path)
             self.answers(OK)
             self.assertEqual((self.told[-1].call, self.told[-1].path), ("check", "/stores/A/check"))
+
+    def test_names_that_stand_twice(self):
+        """Some readers take the first, and some the last."""
+        for asked, answered, why in ((b'{"a":1,"a":2}', b"{}", "twice"), (b'{"tuple_key":1,"tupleKey":2}', b"{}", "both spellings"),
+                                     (b'{"a":[{"b":1,"b":1}]}', b"{}", "twice"), (b"{}", b'{"allowed":false,"allowed":true}', "twice")):
+            message = Ended(1, "check", "", 0, 0, 0, None, None, None, 200, asked, answered, None)
+            with self.assertRaisesRegex(Bad, why):
+                request_of(message)
+                body_of(message)
+        self.assertEqual(body_of(message._replace(response=b'{"a_1":{},"a1":{}}')), {"a_1": {}, "a1": {}})
 
     def test_a_packed_answer_that_holds_much(self):
         data = gzip.compress(b"[" + b"1," * (20 << 20) + b"1]")

@@ -369,6 +369,27 @@ class Shared(OpenFga):
         self.assertEqual((len(self.of_kind("content", "all")), len(self.of_kind("check", "all"))), (len(saved), len(saved)))
         self.assertEqual({row["clock"] for row in self.of_kind("content", "all")}, {"left", "right"})
 
+    def test_one_that_is_killed_and_begun_again_at_its_port(self):
+        """As systemd does. Clients that ask the same address are served as soon as it listens, and its log goes on behind a gap."""
+        self.start_service(MODEL)
+        first = self.start_recorder()
+        client = Client(self.port)
+        self.addCleanup(client.close)
+        self.write(client, key("user:a", "owner", "document:1"))
+        self.check(client, "user:a", "editor", "document:1", X_Content_Save="v")
+        self.wait_for(lambda: self.of_kind("content"))
+        first.kill()
+        first.wait()
+        self.assertEqual(self.check(client, "user:a", "viewer", "document:1")[0], 0)
+        second = self.started("log", "--listen", "127.0.0.1:%d" % self.port, said="again.said")
+        self.wait_for(lambda: self.check(client, "user:a", "viewer", "document:1")[0] == 200)
+        self.wait_for(lambda: "recording " in self.get("again.said"), lambda: self.get("again.said"))
+        self.assertEqual(self.check(client, "user:a", "viewer", "document:1", X_Content_Version="v")[0], 200)
+        self.end(second)
+        self.assertIn("the recorder did not run", [row["reason"] for row in self.of_kind("gap")])
+        self.import_log()
+        self.assertEqual((self.found(), self.of_kind("check")[-1]["version"]), ({}, "v"), self.said_of_audit)
+
     def test_a_port_that_is_not_shared_is_in_use(self):
         self.start_service(MODEL)
         self.start_recorder()

@@ -157,11 +157,11 @@ class Finds(Case):
 class OfTheWhole(Case):
     """The whole recorder, which passes bytes of HTTP, is killed, ended and begun again; and each cure that is taken out is missed by some seed."""
 
-    def assert_found(self, wanted, *patches):
+    def assert_found(self, wanted, *patches, seeds=range(WHOLE)):
         with ExitStack() as stack:
             for one in patches:
                 stack.enter_context(one)
-            for seed in range(WHOLE):
+            for seed in seeds:
                 if any(wanted in fault for fault in run_whole(seed)[1].faults()):
                     return
         self.fail(wanted)
@@ -187,7 +187,29 @@ class OfTheWhole(Case):
         self.assert_found("a wrong reply is called right", mock.patch.object(Reader, "passing", _passing_at_once))
 
     def test_a_path_that_is_read_as_it_stands(self):
-        self.assert_found("a check is neither in the log nor in a gap", mock.patch("new_enemy_tools.recording.reader.path_of", lambda target: target))
+        """Where calls that are not known are no gap."""
+        self.assert_found("a check is neither in the log nor in a gap", mock.patch("new_enemy_tools.recording.reader.path_of", lambda target: target),
+                          mock.patch("new_enemy_tools.recording.reader.UNKNOWN", "none"))
+
+    def test_a_call_that_is_not_known_and_passes(self):
+        self.assert_found("a check is neither in the log nor in a gap", mock.patch("new_enemy_tools.recording.reader.UNKNOWN", "none"))
+
+    def test_a_page_that_is_not_full_taken_for_the_last(self):
+        """What it does not show counts as if it had not come."""
+        kept = OpenFgaFeed._pages
+
+        def pages(feed, cursor):
+            feed.longest = openfga_feed.PAGE
+            return kept(feed, cursor)
+        self.assert_found("a wrong reply is called right", mock.patch.object(OpenFgaFeed, "_pages", pages))
+
+    def test_a_clock_that_is_set_and_nothing_tells(self):
+        """Also a version can then be called unknown whose content was lost by the other time."""
+        def come(core, now):
+            core.now, ahead = now, now.wall - now.clock
+            core.ahead = ahead, ahead, ahead
+        for wanted in "a check is neither in the log nor in a gap", "a version that was saved is not known":
+            self.assert_found(wanted, mock.patch.object(Core, "_come_to", come), seeds=(692, 1859, 1979, 2242))
 
     def test_a_label_that_is_read_as_latin_1(self):
         latin = mock.patch.object(Exchange, "_label", lambda exchange, head, name: head.values[name].decode("latin-1").strip())

@@ -92,8 +92,10 @@ def _list(holder: object, key: str) -> list[Any]:
 
 
 def _listed(response: object, key: str) -> list[Any]:
-    """What an answer lists; JSON of protobuf may leave out a list of nothing."""
-    return _list(response, key) if not isinstance(response, dict) or get(response, key) is not None else []
+    """What an answer lists; JSON of protobuf may leave out a list of nothing, but an answer that says something else is none."""
+    if isinstance(response, dict) and get(response, key) is None and not any(response.values()):
+        return []
+    return _list(response, key)
 
 
 def _batch(request: object, response: object, refusals: Refusals) -> Iterator[Answer]:
@@ -103,14 +105,14 @@ def _batch(request: object, response: object, refusals: Refusals) -> Iterator[An
     found = [(check, results.get(name) if isinstance(name, str) else None) for check, name in zip(checks, named)]
     told = []
     for check, result in found:
-        failed = failure_of(result, ("allowed",))
+        failed = None if isinstance(get(result, "allowed"), bool) else failure_of(result, ("allowed",))
         if failed:
             refusals.pass_over(failed)
         else:
             told.append((check, result))
     yield from each(told, lambda one: _one_of_many(request, *one))
     # A decision on what the request does not ask.
-    yield from (UNREAD for name, result in results.items() if name not in named and not failure_of(result, ("allowed",)))
+    yield from (UNREAD for name, result in results.items() if name not in named and (get(result, "allowed") or not failure_of(result, ("allowed",))))
 
 
 def _one_of_many(request: object, check: object, result: object) -> Answer:

@@ -2,9 +2,10 @@
 import gzip
 import json
 import zlib
+from functools import lru_cache
 from typing import Any
 
-from new_enemy_tools.importing.reading import Bad
+from new_enemy_tools.importing.reading import Bad, spelled
 from new_enemy_tools.importing.refusals import Refusals
 from new_enemy_tools.recording.grpc_calls import GRPC, answered, asked
 from new_enemy_tools.recording.messages import Ended
@@ -21,6 +22,30 @@ class Unheard(Refusals):
 
 
 UNHEARD = Unheard()
+
+
+_other = lru_cache(256)(spelled)
+
+
+def _once(pairs: list[tuple[str, Any]]) -> dict[str, Any]:
+    found = dict(pairs)
+    if len(found) < len(pairs):
+        raise Bad("a name that stands twice in an object of JSON")
+    return found
+
+
+def _spelled_once(pairs: list[tuple[str, Any]]) -> dict[str, Any]:
+    found = dict(pairs)
+    if len(found) < len(pairs):
+        return _once(pairs)
+    for name in found:
+        if "_" in name and _other(name) in found:
+            raise Bad("a name that stands in both spellings in an object of JSON")
+    return found
+
+
+# Of a name that stands twice some readers take the first, and some the last; requests may have a name in either spelling.
+ANSWERED, ASKED = (json.JSONDecoder(object_pairs_hook=hook).decode for hook in (_once, _spelled_once))
 
 
 def _unpacked(data: bytes) -> bytes:
@@ -46,13 +71,13 @@ def body_of(message: Ended) -> Any:
     elif message.encoding not in (None, "", "identity"):
         raise ValueError
     if message.call != "stream":
-        return json.loads(data.decode())
-    return [json.loads(one) for one in data.split(b"\n") if one.strip()]
+        return ANSWERED(data.decode())
+    return [ANSWERED(one.decode()) for one in data.split(b"\n") if one.strip()]
 
 
 def request_of(message: Ended) -> Any:
     """The JSON of a request; raises ValueError, or Bad where it is of gRPC."""
-    return asked(message) if message.encoding == GRPC else json.loads((message.request or b"").decode())
+    return asked(message) if message.encoding == GRPC else ASKED((message.request or b"").decode())
 
 
 def response_of(message: Ended) -> Any:

@@ -17,6 +17,9 @@ from new_enemy_tools.recording.messages import CHECKS, Beat, Bye, Ended, Lost, S
 from new_enemy_tools.recording.sequencer import Commit, Ready, Sequencer
 
 FOREVER = 1 << 63
+# By less than this a clock was not set: the two clocks are read one behind the other.
+NOISE = 10_000_000
+SET = "the clock of the recorder's machine was set"
 # Gaps behind the first one are told together, so often, and checks of other stores.
 TOGETHER = 10 ** 9
 # So many causes are told apart, and so much of one is told: what stands in some comes from a client.
@@ -95,6 +98,8 @@ class Gaps:
         self.told: Optional[int] = None
 
     def add(self, reason: str, start: int, end: int, amount: int = 1) -> None:
+        # The clock of the wall may have been set back meanwhile.
+        start, end = min(start, end), max(start, end)
         before = self.open.get(reason)
         self.open[reason] = Lost(start, end, amount, reason) if before is None else Lost(
             min(before.start, start), max(before.end, end), before.amount + amount, reason)
@@ -120,6 +125,8 @@ class Core:
     def __init__(self, service: Service, hold: float):
         self.service, self.hold = service, hold
         self.now = Now(0, 0)
+        # how far the clock of the wall is ahead of the one that all processes share, and was at least and at most: it may be set
+        self.ahead: Optional[tuple[int, int, int]] = None
         self.sequencer, self.gaps = Sequencer(), Gaps()
         self.is_ready = self.is_over = False
         # when the service last told of its changes, and whether they can't be read
@@ -150,7 +157,7 @@ class Core:
     # Events
 
     def take(self, message: Any, now: Now) -> None:
-        self.now = now
+        self._come_to(now)
         try:
             if isinstance(message, (Started, Ended, Beat)):
                 self._tell_until(message.clock)
@@ -175,6 +182,29 @@ class Core:
                 self.service.moved(self)
         except Exception as fault:
             self.lose(_reason(fault), 0)
+
+    def _come_to(self, now: Now) -> None:
+        self.now, ahead = now, now.wall - now.clock
+        last, least, most = self.ahead or (ahead, ahead, ahead)
+        if self.ahead is None:
+            self.ahead = ahead, ahead, ahead
+        elif abs(ahead - last) > NOISE:
+            self.ahead = ahead, min(least, ahead), max(most, ahead)
+            if self.is_ready:
+                # What waits now may have had its answer by the other time, and be lost with this recorder.
+                self.unsaid.append(gap_line(now.clock - int(self.hold * 1e9) + min(last, ahead), now.clock + max(last, ahead), SET))
+
+    def earliest(self, clock: int) -> int:
+        """What the clock of the wall said then, at least."""
+        return clock + (self.ahead or (0, 0, 0))[1]
+
+    def latest(self, clock: int) -> int:
+        """What the clock of the wall said then, at most."""
+        return clock + (self.ahead or (0, 0, self.now.wall - self.now.clock))[2]
+
+    def _back(self) -> int:
+        """How far the clock of the wall was set back."""
+        return max(0, (self.ahead[2] - self.ahead[0]) if self.ahead else 0)
 
     def _tell_until(self, clock: int) -> None:
         self.sequencer.told_until = max(clock, self.sequencer.told_until)
@@ -220,9 +250,14 @@ class Core:
 
     def _gap_before(self, lost: int) -> bytes:
         """The gap up to now, of a log that goes on or begins."""
+        back = self._back()
+        until = self.now.wall + back
         if self.left is None:
-            return gap_line(None, self.now.wall, "the log begins", lost)
-        return gap_line(nanoseconds(self.left.time), self.now.wall, "the recorder did not run", lost)
+            return gap_line(None, until, "the log begins", lost)
+        since = nanoseconds(self.left.time)
+        if since is None or since > until:
+            return gap_line(None, max(since or 0, until), "the recorder did not run", lost)
+        return gap_line(since - back, until, "the recorder did not run", lost)
 
     # What a service puts into the log
 
@@ -238,13 +273,14 @@ class Core:
         """Some of the entries that wait for their place get none."""
         for one in self.sequencer.take_out(which):
             self.forget(one.call)
-            self.lose(reason, one.since, one.data.count(b"\n"))
+            self.lose(reason, self.earliest(one.since), one.data.count(b"\n"))
 
     def _add_gap(self, reason: str, start: int, end: int, count: int) -> None:
         if reason not in self.lost and len(self.lost) >= CAUSES:
             reason = "other causes than %d" % CAUSES
-        # The clock of the wall may have been set back meanwhile.
-        self.gaps.add(reason, min(start, end), max(start, end), count)
+        # What was lost by the old time may be shown by the new one, and the other way round.
+        back = self._back()
+        self.gaps.add(reason, start - back, end + back, count)
         self.lost[reason] += count
 
     def tried(self, message: Ended, work: Callable[[], None]) -> None:
@@ -290,17 +326,17 @@ class Core:
         if self.sequencer.size > ROOM:
             raise Bad(FULL)
         if made:
-            self.sequencer.put_entry(place, message.at, made, message.number)
+            self.sequencer.put_entry(place, message.clock, made, message.number)
 
     # Time, and the lines
 
     def tick(self, now: Now) -> None:
         """Gives up what has waited for too long."""
-        self.now = now
+        self._come_to(now)
         self.ticks += 1
-        before, clock = now.wall - int(self.hold * 1e9), now.clock - int(self.hold * 1e9)
+        before = now.clock - int(self.hold * 1e9)
         for number, since in list(self.saves_since.items()):
-            if since < clock and number in self.asked:
+            if since < before and number in self.asked:
                 self._let_go(number)
                 self.unheld.add(number)
         behind = "the changes were more than %g seconds behind" % self.hold
@@ -335,7 +371,7 @@ class Core:
 
     def end_asked(self, now: Now) -> None:
         """The proxy is gone: what has no answer gets none."""
-        self.now = now
+        self._come_to(now)
         self._lose_open(self.asked, "the recorder ended before their answers")
 
     def is_waiting(self) -> bool:
@@ -344,7 +380,7 @@ class Core:
 
     def end(self, now: Now) -> None:
         """Nothing more comes: what waits is lost."""
-        self.now = now
+        self._come_to(now)
         if self.elsewhere:
             self.say("checks of other stores, which are not recorded: %d" % self.elsewhere)
         self._say_elsewhere()
@@ -363,7 +399,7 @@ class Core:
         """The recorder ends with these calls; each is counted."""
         for number, asked in list(calls.items()):
             self.forget(number)
-            self.gaps.add("%s: %s" % (reason, asked.kind), self.now.wall - (self.now.clock - asked.clock), self.now.wall)
+            self.gaps.add("%s: %s" % (reason, asked.kind), self.earliest(asked.clock), self.latest(self.now.clock))
         calls.clear()
         self._say_gaps(True)
 

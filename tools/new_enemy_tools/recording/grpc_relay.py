@@ -7,9 +7,9 @@ import time
 from typing import Any, AsyncIterator, Optional
 from urllib.parse import SplitResult
 
-from new_enemy_tools.recording.grpc_calls import CALLS, GRPC, Call, joined
+from new_enemy_tools.recording.grpc_calls import CALLS, GRPC, Call, joined, may_decide
 from new_enemy_tools.recording.http_reading import BODY
-from new_enemy_tools.recording.messages import TOLD, Ended, Started, Teller
+from new_enemy_tools.recording.messages import TOLD, UNKNOWN_CALL, Ended, Started, Teller
 from new_enemy_tools.recording.secured import Certificate, roots_in
 
 try:
@@ -20,7 +20,10 @@ except ImportError:
     sys.exit(3)
 
 NUMBERS = itertools.count(1)
-OPTIONS = [("grpc.max_receive_message_length", -1), ("grpc.max_send_message_length", -1)]
+# What gRPC's libraries in Go let pass, as a long token of a user; by itself this one refuses more than 8 KB.
+METADATA = 16 << 20
+OPTIONS = [("grpc.max_receive_message_length", -1), ("grpc.max_send_message_length", -1), ("grpc.max_metadata_size", METADATA),
+           ("grpc.absolute_max_metadata_size", METADATA), ("grpc.http2.max_ping_strikes", 0)]
 LAST = 3.0
 LABELS = ("x-content-save", "x-content-version", "x-content-token")
 # What gRPC itself says of a connection, and says anew on the next.
@@ -139,6 +142,8 @@ class GrpcRelay:
             self.under_way -= 1
             if kept is not None and not is_cut and (is_good or kept.is_told):
                 self.teller.tell(kept.ended(is_good))
+            elif kept is None and is_good and may_decide(method):
+                self.teller.lose(UNKNOWN_CALL)
 
     async def _passed(self, method: str, requests: AsyncIterator[bytes], context: Any, metadata: list[Any], kept: Optional[Kept]) -> bool:
         """Whether the call ended well."""

@@ -93,57 +93,78 @@ def path_of(target: str) -> str:
     return normpath(unquote(path))
 
 
+@lru_cache(256)
+def loose(path: str) -> str:
+    """A path as the most lenient service may read it."""
+    for _ in range(2):
+        path = unquote(path)
+    return normpath(path.replace("\\", "/")).lower()
+
+
 class Messages:
     """The messages of one side. `begun` is told each head and answers how long its body is, as `Head.length` does; `ended` the body; and
     `raw` each piece of a message as it came, behind its head."""
 
     def __init__(self, begun: Callable[[Head], Optional[int]], ended: Callable[[Optional[bytes]], None], raw: Raw = lambda data: None):
         self.begun, self.ended, self.raw = begun, ended, raw
-        self.data = b""
+        # what has come, and how much of it was cut off: what is left is copied once for all that comes at once
+        self.data, self.at = b"", 0
         self.left: Optional[int] = None
         self.body = bytearray()
         self.is_kept = True
-        # up to where the data have no stray end of a line
+        # up to where what is left has no stray end of a line
         self.seen = 0
         self._step: Callable[[], bool] = self._head
 
     def feed(self, data: bytes) -> None:
         """Takes bytes as they came; raises Strange."""
         self.data += data
-        while self.data and self._step():
-            pass
+        try:
+            while self.at < len(self.data) and self._step():
+                pass
+        finally:
+            self.data, self.at = self.data[self.at:], 0
 
     def end(self) -> None:
         """The side has ended; so has a body that goes on to the end."""
         if self._step == self._to_end:
             self._finish()
 
+    def _left(self) -> int:
+        """How much has come and is still here."""
+        return len(self.data) - self.at
+
     def _cut(self, count: int) -> bytes:
-        found, self.data, self.seen = self.data[:count], self.data[count:], 0
+        found = self.data[self.at:self.at + count]
+        self.at, self.seen = self.at + count, 0
         return found
 
+    def _begins(self, text: bytes) -> bool:
+        return self.data.startswith(text, self.at)
+
     def _find(self, end: bytes) -> int:
-        """Where a line or a head ends; -1 where the end has not come. What has been looked at is not looked at again."""
-        at = self.data.find(end, max(0, self.seen - len(end)))
-        stray = STRAY.search(self.data, max(0, self.seen - 1), at if at >= 0 else len(self.data))
+        """How long a line or a head is; -1 where the end has not come. What has been looked at is not looked at again."""
+        at = self.data.find(end, self.at + max(0, self.seen - len(end)))
+        stray = STRAY.search(self.data, self.at + max(0, self.seen - 1), at if at >= 0 else len(self.data))
         if stray:
             raise Strange("a line with a stray end in it")
         if at < 0:
-            self.seen = len(self.data)
-            if len(self.data) > HEAD:
+            self.seen = self._left()
+            if self.seen > HEAD:
                 raise Strange("a line of more than %d bytes" % HEAD)
-        return at
+            return -1
+        return at - self.at
 
     def _head(self) -> bool:
         # Most come whole.
-        plain = None if self.seen else PLAIN.match(self.data)
-        at = plain.end() - 4 if plain else self._end_of_head()
+        plain = None if self.seen else PLAIN.match(self.data, self.at)
+        at = plain.end() - self.at - 4 if plain else self._end_of_head()
         if at < 0:
             return False
         self.is_kept = True
         # Where it is strange, nothing of it is taken.
-        length, behind = self.begun(Head(self.data[:at], plain is not None)), at + 4
-        if length is not None and 0 <= length <= BODY and len(self.data) >= behind + length:
+        length, behind = self.begun(Head(self.data[self.at:self.at + at], plain is not None)), at + 4
+        if length is not None and 0 <= length <= BODY and self._left() >= behind + length:
             whole = self._cut(behind + length)
             self.raw(whole)
             self.ended(whole[behind:])
@@ -154,17 +175,17 @@ class Messages:
         return True
 
     def _end_of_head(self) -> int:
-        while self.data[:2] == b"\r\n":
+        while self._begins(b"\r\n"):
             self.raw(self._cut(2))
-        if self.data and not NAME.match(self.data):
-            if self.data == b"\r":
+        if self._left() and not NAME.match(self.data, self.at):
+            if self._left() == 1 and self._begins(b"\r"):
                 return -1
             raise Strange("a first line that begins with no word")
         return self._find(b"\r\n\r\n")
 
     def _take(self, count: int) -> int:
         """Moves at most so many bytes to the body."""
-        taken = self._cut(min(count, len(self.data)))
+        taken = self._cut(min(count, self._left()))
         if self.is_kept:
             self.body += taken
             if len(self.body) > BODY:
@@ -178,7 +199,7 @@ class Messages:
         return self.left == 0 and self._finish()
 
     def _to_end(self) -> bool:
-        self._take(len(self.data))
+        self._take(self._left())
         return False
 
     def _line(self) -> Optional[bytes]:
@@ -203,9 +224,9 @@ class Messages:
     def _chunk_data(self) -> bool:
         assert self.left is not None
         self.left -= self._take(self.left)
-        if self.left or len(self.data) < 2:
+        if self.left or self._left() < 2:
             return False
-        if self.data[:2] != b"\r\n":
+        if not self._begins(b"\r\n"):
             raise Strange("a chunk that is longer than it says")
         self.raw(self._cut(2))
         self._step = self._chunk
@@ -217,6 +238,9 @@ class Messages:
             return False
         if line:
             _refuse_field(line)
+            if READ.match(b"\r\n" + line):
+                # Some put trailers to the headers.
+                raise Strange("a trailer that says what a header says")
         return bool(line) or self._finish()
 
     def _finish(self) -> bool:

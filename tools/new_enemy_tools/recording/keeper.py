@@ -11,7 +11,7 @@ import time
 from typing import Any, Callable, NamedTuple, Optional, Protocol
 
 from new_enemy_tools.recording.asking import FeedFault
-from new_enemy_tools.recording.core import Core, Faulty, Now, Service
+from new_enemy_tools.recording.core import NOISE, Core, Faulty, Now, Service
 from new_enemy_tools.recording.log_files import InUse, Left, LogFault, LogFiles
 from new_enemy_tools.recording.messages import KINDS, Bye, Ended, Key, messages_from
 from new_enemy_tools.recording.metrics import Status, StatusSender
@@ -253,4 +253,9 @@ class Keeper:
 
 
 def _now() -> Now:
-    return Now(time.time_ns(), time.monotonic_ns())
+    """Both clocks at one moment, as far as this process is not held up between them."""
+    for _ in range(10):
+        before, wall, clock = time.monotonic_ns(), time.time_ns(), time.monotonic_ns()
+        if clock - before < NOISE // 100:
+            break
+    return Now(wall, clock)

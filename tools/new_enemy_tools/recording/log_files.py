@@ -200,9 +200,12 @@ class LogFiles:
         return Left(place, writes, revision, last, 0)
 
     def _gap_of_killed(self, last: Optional[str], now: int) -> bytes:
-        """What waited when a recorder was killed had its answer so long before the last line, or later."""
+        """What waited when a recorder was killed had its answer so long before the last line, or later. By a clock that was set back since then
+        nobody knows how long it went on."""
         at = nanoseconds(last)
-        return gap_line(None if at is None else at - int((self.hold + LATER) * 1e9), now, "the recorder was killed")
+        if at is None or at > now:
+            return gap_line(None, max(at or 0, now), "the recorder was killed")
+        return gap_line(at - int((self.hold + LATER) * 1e9), now, "the recorder was killed")
 
     @staticmethod
     def _close_left(path: str, size: int, end: bytes) -> None:

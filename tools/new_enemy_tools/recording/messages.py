@@ -12,6 +12,11 @@ SIZE = struct.Struct("<I")
 CHECKS = frozenset(("check", "batch", "list", "stream"))
 # Calls that are told when they are passed on.
 TOLD = CHECKS | {"write"}
+# A call that may decide, of which the recorder does not know how, or which not all services read alike.
+UNKNOWN = "unknown"
+UNKNOWN_CALL = "a call that the recorder does not know, which was answered"
+# Methods by which nobody asks for a decision.
+QUIET = frozenset(("HEAD", "OPTIONS", "TRACE", "CONNECT"))
 # So many messages are written at once, and so many bytes read.
 AT_ONCE, READ = 64, 1 << 16
 # So many bytes may wait for the keeper.

@@ -23,9 +23,10 @@ from new_enemy_tools.recording.bearing import Bearing
 from new_enemy_tools.recording.bodies import UNHEARD, request_of, response_of
 from new_enemy_tools.recording.core import FULL, WAITING, Asked, Begun, Core
 from new_enemy_tools.recording.grpc_calls import GRPC
+from new_enemy_tools.recording.http_reading import loose
 from new_enemy_tools.recording.lines import ODD, Came, line, time_text, tuple_list, unmapped_line, write_line
 from new_enemy_tools.recording.log_files import Doubts, Left, Place
-from new_enemy_tools.recording.messages import Ended, Started
+from new_enemy_tools.recording.messages import QUIET, UNKNOWN, Ended, Started
 from new_enemy_tools.recording.openfga_messages import MESSAGES
 from new_enemy_tools.recording.overlap import Change, Read
 from new_enemy_tools.recording.places import Places, Row, Window, by_turns
@@ -34,6 +35,8 @@ from new_enemy_tools.recording.sequencer import Commit
 from new_enemy_tools.recording.stored import Stored
 
 PATH = re.compile(r"/stores/([^/]+)/(check|batch-check|list-objects|streamed-list-objects|list-users|write)")
+# Whatever else is asked of a store may be a decision, but for these.
+MAY_DECIDE = re.compile(r"/stores/[^/]+/(?!(?:authorization-models|assertions|changes|expand|read|write)(?:/|\Z))")
 CALLS = {"check": "check", "batch-check": "batch", "list-objects": "list", "list-users": "list", "streamed-list-objects": "stream",
          "write": "write"}
 REQUESTS = {call: "".join(word.title() for word in call.split("-")) + "Request" for call in CALLS}
@@ -58,8 +61,11 @@ Key = tuple[Relationship, bool]
 
 
 def call_of(method: str, path: str) -> Optional[str]:
+    """The kind of a call; None of one that decides nothing."""
     found = PATH.search(path) if method == "POST" else None
-    return CALLS[found[2]] if found and found.end() == len(path) else None
+    if found and found.end() == len(path):
+        return CALLS[found[2]]
+    return UNKNOWN if method not in QUIET and MAY_DECIDE.search(loose(path)) else None
 
 
 def refuse_unknown(path: str, request: object) -> None:
@@ -234,8 +240,7 @@ class OpenFga:
 
     def _came(self, low: Optional[int], high: int, core: Core) -> Optional[Came]:
         """From when to when something came, by the clock of the wall, where that is told."""
-        apart = core.now.wall - core.now.clock
-        return (None if low is None else low + apart, high + apart) if self.tells else None
+        return (None if low is None else core.earliest(low), core.latest(high)) if self.tells else None
 
     def _line(self, change: Change, revision: int, came: Optional[Came] = None) -> bytes:
         """A change as the log has it."""
@@ -271,7 +276,7 @@ class OpenFga:
         core.sequencer.reached = self.places.revision
         if self.tells and (message.read.changes or message.rules or message.began - self.told > TOLD):
             self.told = message.began
-            until = time_text(core.now.wall - (core.now.clock - message.began) - self.horizon)
+            until = time_text(core.earliest(message.began) - self.horizon)
             core.put_commit(Commit(self.places.revision, line("read", until=until), message.received, changes=0))
         self._prove(message.began, message.received)
         self._give_up(message.received - self.hold, core)
@@ -484,9 +489,9 @@ class OpenFga:
         return bool(self.waits)
 
     def late(self, before: int) -> list[Ended]:
-        found = [one.message for one in self.waits if one.message.at < before]
+        found = [one.message for one in self.waits if one.message.clock < before]
         if found:
-            self.waits = [one for one in self.waits if one.message.at >= before]
+            self.waits = [one for one in self.waits if one.message.clock >= before]
         self._weigh()
         return found
 

@@ -21,6 +21,8 @@ from new_enemy_tools.recording.stored import Stored
 PAGE = 100
 # So many readings in turn may show less than before, as those of a replica may.
 LESS = 100
+# So many pages in turn may have nothing on them and end further on.
+EMPTY = 1000
 
 
 class Source(Protocol):
@@ -63,6 +65,8 @@ class OpenFgaFeed:
         self.settings = settings
         self.source = source
         self.store = settings.store or ""
+        # how many changes a page had at most
+        self.longest = 0
         self.overlap: Optional[Overlap] = None
         # what tells the latest model from others, and its id
         self.model_mark: object = None
@@ -160,8 +164,11 @@ class OpenFgaFeed:
         return str(stores[0]["id"])
 
     def _pages(self, cursor: Optional[str]) -> Iterator[tuple[list[Change], Optional[str]]]:
-        """The changes behind a token to the end of the feed, page by page, each with the token at its end."""
-        while True:
+        """The changes behind a token to the end of the feed, page by page, each with the token at its end. The last page is shorter than
+        another one: a service may give fewer than it was asked for. That what has come is read without an end is not waited for, since more
+        comes meanwhile."""
+        empty = 0
+        while empty < EMPTY:
             page = self.source.changes(self.store, PAGE, cursor)
             listed, before = get(page, "changes") or [], cursor
             cursor = get(page, "continuation_token") or cursor
@@ -169,8 +176,11 @@ class OpenFgaFeed:
                 raise FeedFault("the changes do not go on: a whole page ends with the token that it was asked by")
             if listed:
                 yield list(map(_change, listed)), cursor
-            if len(listed) < PAGE:
+            is_short, self.longest = 0 < len(listed) < self.longest, max(len(listed), self.longest)
+            if is_short or cursor == before:
                 return
+            empty = 0 if listed else empty + 1
+        raise FeedFault("the changes do not end: %d pages without one" % EMPTY)
 
     def _changes(self, cursor: Optional[str]) -> tuple[list[Change], list[tuple[int, Optional[str]]]]:
         """The changes behind a token to the end of the feed; and of each page how many there are up to its end, and the token there."""

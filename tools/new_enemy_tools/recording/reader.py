@@ -9,7 +9,7 @@ from collections import deque
 from typing import Callable, Optional
 
 from new_enemy_tools.recording.http_reading import Head, Messages, Strange, path_of
-from new_enemy_tools.recording.messages import TOLD, Ended, Started, Teller
+from new_enemy_tools.recording.messages import CHECKS, TOLD, UNKNOWN, UNKNOWN_CALL, Ended, Started, Teller
 
 NUMBERS = itertools.count(1)
 Call = Callable[[str, str], Optional[str]]
@@ -65,6 +65,8 @@ class Reader:
         # those without an answer, and those of which something is still to be passed on
         self.exchanges: deque[Exchange] = deque()
         self.coming: deque[Exchange] = deque()
+        # how many bytes are held of these
+        self.held = 0
         self.asked: Optional[Exchange] = None
         self.requests = Messages(self._request, self._request_body, self._hold)
         self.answers = Messages(self._answer, self._answer_body)
@@ -100,10 +102,11 @@ class Reader:
             self.free += data
         else:
             self.asked.held += data
+            self.held += len(data)
 
     def waits(self) -> int:
         """How many bytes are held."""
-        return len(self.requests.data) + (sum(len(one.held) for one in self.coming) if self.coming else 0)
+        return len(self.requests.data) + self.held
 
     def passing(self) -> bytes:
         """What goes on to the service now."""
@@ -128,6 +131,7 @@ class Reader:
                 found = bytes(one.held[:at])
                 del one.held[:at]
                 one.is_passed = True
+                self.held -= at
                 return found
             if len(one.held) <= HELD:
                 return b""
@@ -135,6 +139,7 @@ class Reader:
         self._tell(one)
         one.is_passed = True
         found, one.held = bytes(one.held), bytearray()
+        self.held -= len(found)
         return found
 
     def _tell(self, one: Exchange) -> None:
@@ -153,6 +158,7 @@ class Reader:
             self.free += one.held
             one.held = bytearray()
         self.coming.clear()
+        self.held = 0
         self.free += self.requests.data
         self.requests.data = b""
 
@@ -180,8 +186,7 @@ class Reader:
     def _give_up(self) -> None:
         """No answer will be read of what was asked; one that had begun broke off."""
         for exchange in self.exchanges:
-            if exchange.is_told:
-                self.teller.tell(exchange.ended(None))
+            self._tell_end(exchange, None)
         self.exchanges.clear()
 
     def _feed_end(self) -> None:
@@ -206,7 +211,7 @@ class Reader:
     def _request_body(self, body: Optional[bytes]) -> None:
         if self.asked is not None:
             self.asked.is_whole = True
-            if self.asked.call:
+            if self.asked.call in TOLD:
                 self.asked.request = body
         self.asked = None
 
@@ -229,5 +234,13 @@ class Reader:
             return
         exchange = self.exchanges.popleft()
         exchange.is_answered = True
+        self._tell_end(exchange, body)
+
+    def _tell_end(self, exchange: Exchange, body: Optional[bytes]) -> None:
+        """An answer, or that it broke off."""
         if exchange.is_told:
             self.teller.tell(exchange.ended(body))
+        elif 200 <= exchange.status < 300 and exchange.call == UNKNOWN:
+            self.teller.lose(UNKNOWN_CALL)
+        elif 200 <= exchange.status < 300 and exchange.call in CHECKS:
+            self.teller.lose("an answer that came before its request had been passed on")

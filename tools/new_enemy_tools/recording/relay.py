@@ -2,6 +2,7 @@
 import asyncio
 import ssl
 import sys
+import time
 from typing import Any, Optional
 from urllib.parse import SplitResult
 
@@ -13,6 +14,9 @@ from new_enemy_tools.recording.secured import context_of
 ROOM = 2 << 20
 # What has come is read into this, by one connection after the other: a place of its own for each reading costs more than the reading.
 COMING = memoryview(bytearray(64 << 10))
+# Of a connection whose bytes take longer to read, in seconds of the processor, less is taken at once, so that others have their turn; at
+# least so much.
+LONG, LEAST = 0.004, 8 << 10
 
 
 class Side(asyncio.BufferedProtocol):
@@ -23,6 +27,8 @@ class Side(asyncio.BufferedProtocol):
         self.transport: Any = None
         self.other: Optional["Side"] = None
         self.has_ended = False
+        # how much is taken at once
+        self.at_once = len(COMING)
         # whether too much is held of what it sent, and whether the other end takes no more
         self.is_full = self.is_stopped = False
 
@@ -30,10 +36,19 @@ class Side(asyncio.BufferedProtocol):
         self.transport = transport
 
     def get_buffer(self, sizehint: int) -> memoryview:
-        return COMING
+        return COMING[:self.at_once]
 
     def buffer_updated(self, nbytes: int) -> None:
+        if nbytes < LEAST:
+            self.take(bytes(COMING[:nbytes]))
+            return
+        began = time.thread_time()
         self.take(bytes(COMING[:nbytes]))
+        took = time.thread_time() - began
+        if took > LONG:
+            self.at_once = max(LEAST, self.at_once // 4)
+        elif took < LONG / 8 and self.at_once < len(COMING):
+            self.at_once *= 2
 
     def take(self, data: bytes) -> None:
         assert self.other is not None

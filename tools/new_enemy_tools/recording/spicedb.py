@@ -2,6 +2,7 @@
 
 A revision is the one in the service's tokens, or on PostgreSQL the number of a commit. A reply says by `checkedAt` which it was computed on.
 """
+import re
 import time
 from collections import deque
 from functools import partial
@@ -19,19 +20,22 @@ from new_enemy_tools.importing.zedtokens import Older, Revision, Snapshot, read_
 from new_enemy_tools.recording.asking import FeedFault
 from new_enemy_tools.recording.bodies import UNHEARD, request_of, response_of
 from new_enemy_tools.recording.core import FULL, WAITING, Asked, Begun, Core
+from new_enemy_tools.recording.http_reading import loose
 from new_enemy_tools.recording.lines import line, time_text, write_line
 from new_enemy_tools.recording.log_files import Doubts, Left, Place
-from new_enemy_tools.recording.messages import Ended, Started
+from new_enemy_tools.recording.messages import QUIET, UNKNOWN, Ended, Started
 from new_enemy_tools.recording.own_events import UNSURE
 from new_enemy_tools.recording.ruled import Takes, Unread, refuse_unread, ruled
 from new_enemy_tools.recording.sequencer import Commit, Known
 from new_enemy_tools.recording.sketches import FAR
+from new_enemy_tools.recording.spicedb_messages import MESSAGES
 from new_enemy_tools.recording.stored import Stored
 from new_enemy_tools.recording.transactions import Transactions
 
 CALLS = {"/v1/permissions/check": "check", "/v1/permissions/checkbulk": "batch",
          "/v1/experimental/permissions/bulkcheckpermission": "batch", "/v1/permissions/resources": "stream",
          "/v1/permissions/subjects": "stream", "/v1/relationships/write": "write", "/v1/relationships/delete": "write"}
+MAY_DECIDE = re.compile(r"/v1/(?:experimental/)?permissions/(?!expand(?:/|\Z))")
 # A stream that ended is opened again after so long.
 AGAIN = 0.05
 # Of so many transactions it is remembered that they came.
@@ -41,7 +45,9 @@ TOLD = 10 ** 9
 
 
 def call_of(method: str, path: str) -> Optional[str]:
-    return CALLS.get(path[path.rfind("/v1/"):]) if method == "POST" else None
+    """The kind of a call; None of one that decides nothing."""
+    found = CALLS.get(path[path.rfind("/v1/"):]) if method == "POST" else None
+    return found or (UNKNOWN if method not in QUIET and MAY_DECIDE.search(loose(path)) else None)
 
 
 class Source(Protocol):
@@ -133,6 +139,10 @@ def demanded_by(request: Any) -> Any:
 
 
 def _traits(given: object) -> Optional[str]:
+    try:
+        MESSAGES.refuse_unknown("Relationship", given)
+    except Bad as fault:
+        return str(fault)
     return "caveat" if get(given, "optionalCaveat") else "expiration" if get(given, "optionalExpiresAt") else None
 
 
@@ -252,7 +262,6 @@ class Waiting(NamedTuple):
 class Answered(NamedTuple):
     """What an answer on PostgreSQL saw. It is known since then, and has a number when the changes have come to it."""
 
-    at: int
     clock: int
     snapshot: Snapshot
 
@@ -358,7 +367,7 @@ class SpiceDb:
         """Since when all changes up to a revision are known, where the log has that; or from which one on the rules are not."""
         if self.tells:
             self.told = clock if unsure is None else self.told
-            data = self._read(revision, core.now.wall - (core.now.clock - clock), unsure)
+            data = self._read(revision, core.latest(clock), unsure)
             core.put_commit(Commit(revision, data, clock, changes=0))
 
     def _read(self, revision: int, at: int, unsure: Optional[bool] = None) -> bytes:
@@ -395,10 +404,10 @@ class SpiceDb:
         return bool(self.pending)
 
     def late(self, before: int) -> list[Ended]:
-        found = [one.message for one in self.pending if one.message.at < before]
-        self.pending = [one for one in self.pending if one.message.at >= before]
+        found = [one.message for one in self.pending if one.message.clock < before]
+        self.pending = [one for one in self.pending if one.message.clock >= before]
         self.weight = sum(len(one.answers) for one in self.pending)
-        self.answered = [one for one in self.answered if one.at >= before]
+        self.answered = [one for one in self.answered if one.clock >= before]
         return found
 
     def end(self, message: Ended, asked: Asked, core: Core) -> None:
@@ -410,8 +419,9 @@ class SpiceDb:
             if revision.number is not None:
                 self.history.add(message.clock, revision.number)
             elif revision.snapshot is not None:
-                self._learn(Answered(message.at, message.clock, revision.snapshot))
+                self._learn(Answered(message.clock, revision.snapshot))
             return
+        MESSAGES.refuse_unknown("Consistency", get(request, "consistency"))
         if message.call == "stream":
             response = [one for one in response if get(one, "error") is None]
         self.decided(message, request, response, asked, core)
@@ -429,7 +439,7 @@ class SpiceDb:
         if revision.snapshot is not None:
             token = demanded_by(request) if message.save is None else message.token
             demanded = None if token is None else revision_of(token).snapshot
-            self._learn(Answered(message.at, message.clock, revision.snapshot))
+            self._learn(Answered(message.clock, revision.snapshot))
             if self.weight > WAITING:
                 raise Bad(FULL)
             kept = {"consistency": get(request, "consistency")}

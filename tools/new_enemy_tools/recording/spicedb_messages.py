@@ -1,6 +1,7 @@
 """The messages of SpiceDB's gRPC, for the few fields that a recorder reads and writes.
 
-The numbers are those of the public definitions, authzed.api.v1; fields that are not named here are passed over.
+The numbers are those of the public definitions, authzed.api.v1; fields that are not named here are passed over, but for those of what a
+check demands and of a relationship.
 """
 from new_enemy_tools.recording.protobuf import ANY, BOOL, TEXT, Field, Messages, numbered
 
@@ -48,4 +49,4 @@ MESSAGES = Messages({
     "WatchRequest": {2: Field("optionalStartCursor", "Token"), 4: Field("optionalUpdateKinds", KIND, True)},
     "WatchResponse": {1: Field("updates", "Update", True), 2: Field("changesThrough", "Token"), 4: Field("schemaUpdated", BOOL),
                       5: Field("isCheckpoint", BOOL)},
-})
+}, frozenset(("Consistency", "Relationship")))
