@@ -12,12 +12,16 @@ import unittest
 from random import Random
 from typing import List, NamedTuple, Optional, Set, Tuple
 
+from hostile.inputs import command_cases, worked_cases
+from new_enemy_tools.files import split_joined
 from tests.random_windows import RandomHistory
 from tests.support import Case
 
 PROGRAM = os.environ["NEW_ENEMY"]
 HISTORIES = int(os.environ.get("RANDOM_RUNS", "40"))
 SECONDS = 60
+SHORT = 10_000
+NUMBER = re.compile(rb'"(?:at|snapshot)" *: *([0-9]+)')
 UNAUDITED = re.compile(r"line ([0-9]+): not audited, below ([0-9]+)")
 
 
@@ -26,6 +30,17 @@ class Told(NamedTuple):
     findings: List[str]
     unaudited: Set[int]
     status: int
+
+
+class Ended(NamedTuple):
+    """What the runs of a log found, by kind, how many entries they did not audit, and how many there were."""
+    kinds: Set[str]
+    unaudited: int
+    runs: int
+
+
+def line_of(finding: str) -> int:
+    return int(finding.split(":")[0][5:])
 
 
 def told_by(out: str, status: int) -> Told:
@@ -87,29 +102,52 @@ class InRuns(Case):
             times.append(newest)
         return [json.dumps(value, ensure_ascii=False, separators=(",", ":")).encode() + b"\n" for value in values], times
 
-    def test_random_logs_in_runs(self):
+    def audited(self, lines: List[bytes]) -> Optional[List[str]]:
+        """What an audit finds on the whole log; None where it is refused."""
+        whole = subprocess.run([PROGRAM, "audit", self.put("whole", b"".join(lines)), "--make"], stdout=subprocess.PIPE, stderr=subprocess.PIPE,
+                               universal_newlines=True, timeout=SECONDS)
+        return [line for line in whole.stdout.splitlines() if line.startswith("line ")] if whole.returncode in (0, 1) else None
+
+    def compare(self, random: Random, lines: List[bytes], times: List[int], wanted: List[str]) -> Ended:
+        """Follows a log in runs, and compares what they told with what an audit finds."""
+        for name in os.listdir(self.path("")):
+            os.remove(self.path(name))
+        findings, unaudited, runs = self.run_all(random, lines, times)
+        self.assertEqual(sorted(findings), sorted(line for line in wanted if line_of(line) not in unaudited))
+        return Ended({line.split(": ")[1].split(" ")[0] for line in findings}, len(unaudited), runs)
+
+    def test_random_logs_in_runs(self) -> None:
         """Whatever the cuts and the bases: old snapshots, versions of earlier runs, rules that change, entries that wait."""
         seen, left, runs = set(), 0, 0
         for seed in range(HISTORIES):
             with self.subTest(seed=seed):
                 random = Random("runs %d" % seed)
                 lines, times = self.history(random)
-                whole = subprocess.run([PROGRAM, "audit", self.put("whole", b"".join(lines)), "--make"], stdout=subprocess.PIPE,
-                                       universal_newlines=True, timeout=SECONDS)
-                self.assertIn(whole.returncode, (0, 1))
-                wanted = [line for line in whole.stdout.splitlines() if line.startswith("line ")]
-                findings, unaudited, ended = self.run_all(random, lines, times)
-                audited = [line for line in wanted if int(line.split(":")[0][5:]) not in unaudited]
-                self.assertEqual(sorted(findings), sorted(audited))
-                seen |= {line.split(": ")[1].split(" ")[0] for line in findings}
-                left, runs = left + len(unaudited), runs + ended
-                for name in os.listdir(self.path("")):
-                    os.remove(self.path(name))
+                wanted = self.audited(lines)
+                assert wanted is not None
+                ended = self.compare(random, lines, times, wanted)
+                seen, left, runs = seen | ended.kinds, left + ended.unaudited, runs + ended.runs
         self.assertGreaterEqual(seen, {"F1", "F2", "F3", "F4", "F5", "F6", "F10"})
         self.assertGreater(left, 0)
         self.assertGreater(runs, HISTORIES)
 
-    def test_a_run_that_is_killed_is_repeated(self):
+    def test_worked_cases_in_runs(self) -> None:
+        """The traces of the worked cases of `audit --make` and of joined input, behind which a commit settles all."""
+        traces = [case.files[case.words[1]] for case in command_cases() if case.words[2:] == ["--make"] and case.words[1] in case.files]
+        traces += [split_joined(case.data)[0] for case in worked_cases()]
+        runs = 0
+        for number, data in enumerate(dict.fromkeys(data for data in traces if len(data) < SHORT)):
+            lines = [line + b"\n" for line in data.split(b"\n") if line]
+            numbers = [int(found) for found in NUMBER.findall(data) if len(found) < 19]
+            lines.append(b'{"kind":"commit","at":%d}\n' % (max(numbers, default=0) + 1))
+            wanted = self.audited(lines)
+            if wanted is None:
+                continue
+            with self.subTest(number=number, data=data[:200]):
+                runs += self.compare(Random("rows %d" % number), lines, [max(numbers, default=0)] * len(lines), wanted).runs
+        self.assertGreater(runs, 200)
+
+    def test_a_run_that_is_killed_is_repeated(self) -> None:
         """It leaves the carry that it began with, and none of its own; once more over the same lines it tells the same."""
         random = Random("runs 10")
         lines, _ = self.history(random)
