@@ -1,6 +1,7 @@
 """The devices round the core of a monitor: it reads the log, feeds the program, keeps rows, tells receivers, and ends
 runs."""
 import asyncio
+import gc
 import os
 import sys
 import time
@@ -133,6 +134,9 @@ class Machine:
         self.journal.replace(self.core.kept_rows())
         self.core.holding.stop = None
         self._begin(self.core.holding)
+        # What the run had goes in circles, and there is much of it.
+        del run, carry
+        gc.collect()
 
     # What comes in
 
