@@ -36,12 +36,11 @@ class LateStore(Store):
         self._asked = 0
         self._read: dict[int, QuickCommit] = {}
 
-    def _touched(self, of: Userset) -> Optional[list[Touched]]:
-        text = str(of).encode()
+    def _touched(self, of: bytes) -> Optional[list[Touched]]:
         listed: list[Touched] = []
-        for place in self._places_of(text):
+        for place in self._places_of(of):
             commit, at = self._commit(place), self._ats[place]
-            listed += [(user, at, live) for pairs, live in ((commit.add, True), (commit.remove, False)) for other, user in pairs if other == text]
+            listed += [(user, at, live) for pairs, live in ((commit.add, True), (commit.remove, False)) for other, user in pairs if other == of]
         return listed or None
 
     def _places_of(self, text: bytes) -> list[int]:

@@ -157,14 +157,6 @@ class Settled(Known):
             self.steps.append(Step(False, left))
 
 
-def holds(rules: Rules, store: Store, goal: Tuple, at: int) -> bool:
-    """Whether a goal holds; raises Outgrown. What it leads to is gone through only where its own rule and tuples do not settle it: a rule that
-    holds, or does not, whatever is not known yet, stays so when all is known."""
-    assert isinstance(goal.user, int)
-    at_once = Known(rules, store, goal.user, at).of_rule(goal.set)
-    return Settled(rules, store, goal, at).holds() if at_once is None else at_once
-
-
 def _any(answers: list[Optional[bool]]) -> Optional[bool]:
     if True in answers:
         return True

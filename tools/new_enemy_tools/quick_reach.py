@@ -4,7 +4,7 @@ It says what Reach and Settled would say, of goals that lead to few usersets.
 """
 from bisect import bisect_left, bisect_right
 from itertools import accumulate
-from typing import NamedTuple, Optional
+from typing import NamedTuple, Optional, Protocol
 
 from new_enemy_tools.rules import Place, Rules, children_of, form_of, places
 from new_enemy_tools.strictjson import Object
@@ -77,6 +77,10 @@ def _leaf(place: Place) -> Leaf:
     return place.form, names[0], names[1]
 
 
+def rule_of(rewrite: Object) -> Rule:
+    return Rule(list(map(_leaf, places(rewrite))), None if _is_union(rewrite) else Body(rewrite))
+
+
 def _is_union(rewrite: Object) -> bool:
     form = form_of(rewrite)
     return form not in ("intersection", "exclusion") and (form != "union" or all(map(_is_union, rewrite[form])))
@@ -109,8 +113,7 @@ class Sight:
         self._rules: dict[tuple[bytes, bytes], Rule] = {}
         for declaration in rules.declarations:
             for relation in declaration.relations:
-                rule = Rule(list(map(_leaf, places(relation.rewrite))), None if _is_union(relation.rewrite) else Body(relation.rewrite))
-                self._rules[declaration.name.encode(), relation.name.encode()] = rule
+                self._rules[declaration.name.encode(), relation.name.encode()] = rule_of(relation.rewrite)
         self._has_members = MEMBER.search(self._text) is not None
         # of each relation those of the same object whose tuples are read, where no userset is stored anywhere
         self._own: dict[tuple[bytes, bytes], list[bytes]] = {}
@@ -271,10 +274,20 @@ class Sight:
         return True if pair in known[0] else False if pair in known[1] else None
 
 
-class Asked:
-    """Whether a user is in usersets by the first so many commits; raises Tangled."""
+class Seen(Protocol):
+    """Rules and a store, whose states have numbers."""
 
-    def __init__(self, sight: Sight, user: bytes, count: int):
+    def rule(self, thing: bytes, relation: bytes) -> Rule: ...
+
+    def sets(self, of: bytes, count: int) -> list[bytes]: ...
+
+    def has(self, of: bytes, user: bytes, count: int) -> bool: ...
+
+
+class Asked:
+    """Whether a user is in usersets at a state, by its number; raises Tangled."""
+
+    def __init__(self, sight: Seen, user: bytes, count: int):
         self.sight, self.user, self.count = sight, user, count
         # usersets whose rules are no unions: those that are being asked for, and what was found
         self._asked: set[bytes] = set()

@@ -52,7 +52,7 @@ class Completions(Case):
         """Of each case what a script offers that begins with `script`, which names a function `of`."""
         calls = "".join("of %s; echo '==';\n" % " ".join(map(shlex.quote, words)) for words, _ in cases)
         # Each shell looks for settings of its own in HOME.
-        ended = subprocess.run([*shell, script + calls], cwd=self.room, stdin=subprocess.DEVNULL, capture_output=True, text=True, timeout=120,
+        ended = subprocess.run([*shell, script + calls], cwd=self.room, stdin=subprocess.DEVNULL, capture_output=True, text=True, timeout=300,
                                env=plain(FOLDER=self.folder, HOME=self.room))
         self.assertEqual(ended.returncode, 0, (ended.stdout, ended.stderr))
         offered = [{line.split("\t")[0] for line in part.splitlines() if line} for part in ended.stdout.split("==\n")[:-1]]

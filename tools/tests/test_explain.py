@@ -12,14 +12,15 @@ from unittest import mock
 
 from hostile.inputs import worked_cases
 from new_enemy_tools import limits
+from new_enemy_tools.answers import Answers
 from new_enemy_tools.evidence import check_evidence, records_of
 from new_enemy_tools.files import split_joined
 from new_enemy_tools.judging import judge
-from new_enemy_tools.meaning import Known, Settled, holds
+from new_enemy_tools.meaning import Settled
 from new_enemy_tools.token_order import order_lines
 from new_enemy_tools.reasons import Reasons
 from new_enemy_tools.texts import Tuple
-from new_enemy_tools.trace import Fault, read_trace
+from new_enemy_tools.trace import Fault, Trace, read_trace
 from tests.random_traces import RandomInput
 from tests.support import EXAMPLES, Case
 from tests.test_effects import ChangingInput
@@ -328,17 +329,27 @@ class Ways(Case):
         for kind in ("stored", "absent", "in", "not in", "taken", "above"):
             self.assertGreater(seen[kind], 0, seen)
 
-    def test_a_goal_that_is_settled_at_once_is_as_one_that_is_gone_through(self):
-        seen, at_once = Counter(), 0
-        for number in range(RANDOM_TRACES):
-            trace = read_trace(b"\n".join(ChangingInput(Random("at once %d" % number), 40).lines()))
-            for one in trace.entries.values():
-                for at in (one.snapshot, one.snapshot // 2):
-                    wanted = Settled(trace.rules, trace.store, one.goal, at).holds()
-                    self.assertEqual(holds(trace.rules, trace.store, one.goal, at), wanted)
-                    seen[wanted] += 1
-                    at_once += Known(trace.rules, trace.store, one.goal.user, at).of_rule(one.goal.set) is not None
-        self.assertGreater(min(seen[True], seen[False], at_once, sum(seen.values()) - at_once), RANDOM_TRACES // 2)
+    def test_a_quick_answer_is_that_of_what_the_goal_leads_to(self):
+        """Also where rules and store grow between two questions."""
+        for steps, deep, told_apart in (5_000, 120, 1 << 17), (2, 120, 5), (5_000, 1, 5):
+            seen = Counter()
+            limits_of = mock.patch.multiple("new_enemy_tools.quick_reach", STEPS=steps, DEEP=deep)
+            kept = mock.patch("new_enemy_tools.store.TOLD_APART", told_apart)
+            with limits_of, kept, mock.patch("new_enemy_tools.answers.Settled", wraps=Settled) as slow:
+                for number in range(RANDOM_TRACES):
+                    trace, goals = Trace(), []
+                    answers = Answers(trace.rules, trace.store)
+                    lines = b"\n".join(ChangingInput(Random("at once %d" % number), 40).lines()).splitlines()
+                    for line, raw in enumerate(filter(bytes.strip, lines), 1):
+                        trace.take(line, raw)
+                        goals += [(one.goal, at) for one in list(trace.entries.values())[len(goals) // 2:]
+                                  for at in (one.snapshot, one.snapshot // 2)]
+                        for goal, at in goals[-4:]:
+                            wanted = Settled(trace.rules, trace.store, goal, at).holds()
+                            self.assertEqual(answers.holds(goal, at), wanted)
+                            seen[wanted] += 1
+            self.assertGreater(min(seen[True], seen[False]), RANDOM_TRACES)
+            self.assertEqual(slow.call_count > RANDOM_TRACES, told_apart == 5, slow.call_count)
 
     def follow(self, trace, goal, at, reason, seen, path):
         self.assertEqual(reason.holds, Settled(trace.rules, trace.store, Tuple(reason.of, goal.user), at).holds())

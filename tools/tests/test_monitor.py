@@ -26,7 +26,7 @@ from new_enemy_tools.monitoring.delivery import Send
 from new_enemy_tools.monitoring.receivers import Syslog
 from tests import test_joining
 from tests.ports import free_port
-from tests.recorded import Client, Recorded
+from tests.recorded import READY, Client, Recorded
 from tests.support import EXAMPLES, NE, TOP
 from tests.test_core import check, content, rel, write
 from tests.test_going_on import RULES, events_of
@@ -78,7 +78,7 @@ class Monitoring(Recorded):
         return one
 
     def ends(self, one, status=0):
-        self.assertEqual(one.wait(120), status, self.get("monitor.err"))
+        self.assertEqual(one.wait(READY), status, self.get("monitor.err"))
 
     def stop(self, one):
         one.send_signal(signal.SIGTERM)
@@ -175,18 +175,25 @@ class BesideSeveral(Monitoring, OpenFgaLoaded):
     def test_it_tells_what_a_join_of_the_logs_tells(self):
         """Also where it is killed, and begun again in the middle of a run or behind one."""
         self.start_two("0.3")
+        self.run_broken()
+        for recorder, _ in self.two:
+            self.end(recorder)
+        self.end(self.between)
+        self.compare()
+
+    def run_broken(self):
+        """Clients ask beside a monitor that is killed meanwhile, and one that is begun behind it."""
         one = self.several("--day-bytes", "20000")
         self.run_clients(4, 40, self.work)
         self.wait_for(lambda: self.told(), lambda: self.get("monitor.err"))
         one.kill()
         one.wait()
-        one = self.several("--day-bytes", "20000")
+        self.last = self.several("--day-bytes", "20000")
         self.wait_for(lambda: self.get("monitor.err").count("reading left and right") == 2)
         self.run_clients(4, 40, self.work)
-        for recorder, _ in self.two:
-            self.end(recorder)
-        self.end(self.between)
-        self.stop(one)
+
+    def compare(self):
+        self.stop(self.last)
         self.ends(self.several("--once"))
         run = self.run_process("join", "--out", "all", "left", "right")
         self.assertEqual((run.returncode, run.stderr), (0, ""))
@@ -235,6 +242,28 @@ class BesideSeveral(Monitoring, OpenFgaLoaded):
         self.put("out/joined/000001.jsonl", kept[:-10])
         self.ends(self.several("--once"), 5)
         self.assertIn("out/joined/000001.jsonl was cut; begin another folder", self.get("monitor.err"))
+
+
+class BesideSeveralOfSpiceDb(Monitoring, SpiceDbLoaded):
+    """Over the logs of two recorders in front of SpiceDB."""
+
+    several, run_broken, compare = BesideSeveral.several, BesideSeveral.run_broken, BesideSeveral.compare
+
+    def work(self, client, random, number, turn):
+        client.port = self.two[number % 2][1]
+        super().work(client, random, number, turn)
+
+    def test_it_tells_what_a_join_of_the_logs_tells(self):
+        self.start_service("0.1", "planted")
+        client = Client(self.service_port)
+        self.prepare(client)
+        client.close()
+        self.two = [(self.start_recorder("--hold", "600", folder=name, said=name + ".said"), self.port)
+                    for name in ("left", "right")]
+        self.run_broken()
+        for recorder, _ in self.two:
+            self.end(recorder)
+        self.compare()
 
 
 class Growing(Monitoring):
@@ -342,7 +371,8 @@ class Growing(Monitoring):
         day = (datetime.now(timezone.utc) - timedelta(hours=36)).strftime("%Y-%m-%d")
         events = [RULES, BASE, PLACE, *timed(events_of(Random("nights"), 200), day), write(10 ** 6, rel("none"))]
         self.put_log(files_of(events, [150]))
-        one = self.monitor("--html", "--zone", "Europe/Berlin")
+        # A zone in which the next day does not end meanwhile.
+        one = self.monitor("--html", "--zone", "Asia/Tokyo" if datetime.now(timezone.utc).hour > 19 else "Europe/Berlin")
         self.wait_for(lambda: "run 1 has ended, since the day is over" in self.get("monitor.err"),
                       lambda: self.get("monitor.err"))
         run = self.run_tool("day", "--program", PROGRAM, "--jobs", "1", "--html", "byday", "events", *self.files())
@@ -599,7 +629,7 @@ class Receivers(Hooked):
 class Metrics(Hooked):
     def asked(self, port, path):
         try:
-            with urllib.request.urlopen("http://127.0.0.1:%d%s" % (port, path), timeout=30) as answer:
+            with urllib.request.urlopen("http://127.0.0.1:%d%s" % (port, path), timeout=READY) as answer:
                 return answer.status, answer.read().decode()
         except urllib.error.HTTPError as fault:
             return fault.code, fault.read().decode()
@@ -704,7 +734,7 @@ class Examples(Monitoring):
 
     def page(self, port):
         try:
-            with urllib.request.urlopen("http://127.0.0.1:%d/metrics" % port, timeout=30) as answer:
+            with urllib.request.urlopen("http://127.0.0.1:%d/metrics" % port, timeout=READY) as answer:
                 return answer.read()
         except OSError:
             return b""

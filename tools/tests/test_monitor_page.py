@@ -10,6 +10,7 @@ import urllib.request
 from new_enemy_tools.labels import Labels
 from new_enemy_tools.monitoring.live_page import SILENT, Live, page_of
 from tests.ports import free_port
+from tests.recorded import READY
 from tests.support import Case
 from tests.test_core import check, rel, write
 from tests.test_monitor import BASE, PLACE, RULES, Hooked, files_of, timed
@@ -65,7 +66,7 @@ class Shown(Hooked):
 
     def asked(self, address, path="/"):
         try:
-            with urllib.request.urlopen("http://%s%s" % (address, path), timeout=30) as answer:
+            with urllib.request.urlopen("http://%s%s" % (address, path), timeout=READY) as answer:
                 self.headers = answer.headers
                 return answer.read().decode()
         except OSError:

@@ -155,7 +155,7 @@ class Browser(Pages):
     def loaded(self, address: str, *words: str) -> str:
         """The page as it is once the browser has loaded it and run its script."""
         run = subprocess.run([BROWSER, "--headless", "--no-sandbox", "--disable-gpu", "--user-data-dir=" + self.path("browser"), *words,
-                              "--dump-dom", "file://" + address], capture_output=True, text=True, timeout=120)
+                              "--dump-dom", "file://" + address], capture_output=True, text=True, timeout=300)
         self.assertEqual(run.returncode, 0, run.stderr)
         return run.stdout
 
@@ -205,7 +205,7 @@ class Browser(Pages):
         for words in ([], ["--force-dark-mode"]):
             subprocess.run([BROWSER, "--headless", "--no-sandbox", "--disable-gpu", "--user-data-dir=" + self.path("browser"), *words,
                             "--window-size=1000,1200", "--screenshot=" + self.path("page.png"), "file://" + place], check=True,
-                           capture_output=True, timeout=120)
+                           capture_output=True, timeout=300)
             with open(self.path("page.png"), "rb") as file:
                 sizes.append(file.read())
         self.assertTrue(all(size[:4] == b"\x89PNG" and len(size) > 20_000 for size in sizes))

@@ -34,7 +34,7 @@ MOST_BYTES = 1_000_000
 @functools.lru_cache(maxsize=4096)
 def answer(joined):
     """The program's status, output and error; many parts are alike."""
-    run = subprocess.run([os.environ["NEW_ENEMY"]], input=joined, capture_output=True, timeout=120)
+    run = subprocess.run([os.environ["NEW_ENEMY"]], input=joined, capture_output=True, timeout=300)
     return run.returncode, run.stdout, run.stderr
 
 

@@ -235,7 +235,7 @@ class Rules(PrintedCase):
 class Measuring(Case):
     def measured(self, *tools):
         words = [os.path.join(TOOLS, "dev", "import_speed"), "--megabytes", "0.02", "--form", "events", "--form", "spicedb_log", "--folder", self.room]
-        return subprocess.run([*words, *tools], capture_output=True, text=True, timeout=120)
+        return subprocess.run([*words, *tools], capture_output=True, text=True, timeout=300)
 
     def test_two_folders_of_tools(self):
         run = self.measured(TOOLS, TOOLS)

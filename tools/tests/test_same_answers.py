@@ -16,7 +16,7 @@ BACKWARDS = """#!/bin/sh
 class SameAnswers(Case):
     def compared(self, other: str, *more: str) -> "subprocess.CompletedProcess[str]":
         words = [os.path.join(TOP, "tools", "dev", "same_answers"), "--runs", "3", "--folder", self.room, *more, os.environ["NEW_ENEMY"], other]
-        return subprocess.run(words, capture_output=True, text=True, timeout=120)
+        return subprocess.run(words, capture_output=True, text=True, timeout=300)
 
     def test_itself(self) -> None:
         run = self.compared(os.environ["NEW_ENEMY"])

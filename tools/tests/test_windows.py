@@ -160,7 +160,7 @@ class WindowCase(PartsCase):
         return run.stdout
 
     def run_program(self, *words):
-        ended = subprocess.run([os.environ["NEW_ENEMY"], *words], capture_output=True, text=True, timeout=120)
+        ended = subprocess.run([os.environ["NEW_ENEMY"], *words], capture_output=True, text=True, timeout=300)
         return Run(ended.returncode, ended.stdout, ended.stderr)
 
 

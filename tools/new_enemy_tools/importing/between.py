@@ -6,8 +6,8 @@ becomes one entry for each, so that the audit says of each that the reply is wro
 from bisect import bisect_left, bisect_right
 from typing import Iterable, Iterator, NamedTuple, Optional
 
+from new_enemy_tools.answers import Answers
 from new_enemy_tools.importing.commits import Commit, Writer
-from new_enemy_tools.meaning import holds
 from new_enemy_tools.rules import Declaration, Rules
 from new_enemy_tools.store import Store
 from new_enemy_tools.texts import Tuple
@@ -64,6 +64,7 @@ class States:
 
     def __init__(self) -> None:
         self.store, self.rules = Store(), Rules()
+        self.answers = Answers(self.rules, self.store)
         self.revisions: list[int] = []
         self.right = self.wrong = self.entries = 0
 
@@ -80,10 +81,14 @@ class States:
         return bisect_right(self.revisions, high) - bisect_left(self.revisions, low)
 
     def chosen(self, asked: Asked, place: int, may_go_on: bool = False) -> list[int]:
-        """The revision for a check that stands behind so many commits, or those of all states. At most STATES, each evaluated once.
+        """The revision for a check that stands behind so many commits, or those of all states, at most STATES.
 
         None where the log may go on, some state is behind it, and at none that is known the check is right and without a finding.
         """
+        if asked.kind == "check" and not self._findings(asked, asked.highest, place) and self._is_right(asked, asked.highest):
+            # Of most checks no other state is asked for.
+            self.right += 1
+            return [asked.highest]
         is_open = may_go_on and (not self.revisions or self.revisions[-1] < asked.highest)
         between = self.revisions[bisect_left(self.revisions, asked.lowest):bisect_right(self.revisions, asked.highest)]
         latest_first = sorted({asked.lowest, asked.highest, *between}, reverse=True)
@@ -92,7 +97,7 @@ class States:
             # The earliest that it can be, so that no later check of its version has to see more than there was.
             listed.sort(key=lambda at: (asked.token not in (None, at), at))
         for at in listed:
-            if holds(self.rules, self.store, asked.goal, at) == asked.reply:
+            if self._is_right(asked, at):
                 if is_open and self._findings(asked, at, place):
                     break
                 self.right += 1
@@ -102,6 +107,9 @@ class States:
         self.wrong += 1
         self.entries += len(listed)
         return listed
+
+    def _is_right(self, asked: Asked, at: int) -> bool:
+        return self.answers.holds(asked.goal, at) == asked.reply
 
     def _findings(self, asked: Asked, at: int, place: int) -> int:
         """How many findings on its own tokens and order the check would have at a revision."""

@@ -47,8 +47,12 @@ class Follower:
         said = self._error.read().decode("utf-8", "replace").strip()
         return said or "%s ended with %d" % (self.program, status)
 
-    def stop(self) -> None:
+    def kill(self) -> None:
+        """Also where somebody waits for its end."""
         self._process.kill()
+
+    def stop(self) -> None:
+        self.kill()
         self._process.wait()
         self._feeder.stop()
 

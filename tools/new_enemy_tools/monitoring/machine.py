@@ -1,8 +1,8 @@
 """The devices round the core of a monitor: it reads the log, feeds the program, keeps rows, tells receivers, and ends
 runs."""
 import asyncio
+import gc
 import os
-import signal
 import sys
 import time
 from argparse import Namespace
@@ -23,6 +23,7 @@ from new_enemy_tools.monitoring.marks import Mark
 from new_enemy_tools.monitoring.receivers import Answered, Receiver, Teller
 from new_enemy_tools.monitoring.run import Run
 from new_enemy_tools.monitoring.run_files import RunFile, keep, start_of
+from new_enemy_tools.monitoring.stopping import Stopping
 from new_enemy_tools.monitoring.tail import Tail
 from new_enemy_tools.recording.metrics import MetricsServer
 from new_enemy_tools.recording.sketches import JOINED
@@ -113,6 +114,8 @@ class Machine:
         status = self.follower.end()
         self._hear_all()
         if status not in (0, 1):
+            if self.is_stopping:
+                return
             raise MonitorFault("the program refuses the trace: %s" % self.follower.fault())
         self._do(self.core.tell(now, True))
         self.journal.sync()
@@ -131,6 +134,9 @@ class Machine:
         self.journal.replace(self.core.kept_rows())
         self.core.holding.stop = None
         self._begin(self.core.holding)
+        # What the run had goes in circles, and there is much of it.
+        del run, carry
+        gc.collect()
 
     # What comes in
 
@@ -186,8 +192,10 @@ class Machine:
                 self.core.said(message.line, now)
         elif isinstance(message, Answered):
             self.core.answered(message.receiver, message.number, message.fault, now)
-        elif isinstance(message, Ended) and message.by is self.follower and not self.run.is_closed:
-            raise MonitorFault("the program refuses the trace: %s" % message.by.fault())
+        elif isinstance(message, Ended) and message.by is self.follower:
+            # Who tells the monitor to stop may have told the program too.
+            if not self.run.is_closed and not self.is_stopping:
+                raise MonitorFault("the program refuses the trace: %s" % message.by.fault())
 
     # What is to be done
 
@@ -272,7 +280,14 @@ class Machine:
         return "The monitor begins.\n" if self.live_page is None else page_of(self.live_page, self._age())
 
     def hear_signals(self) -> None:
-        def stop(*_: object) -> None:
-            self.is_stopping = True
-        for number in (signal.SIGTERM, signal.SIGINT):
-            signal.signal(number, stop)
+        Stopping(self._told_to_stop, self._broken_off)
+
+    def _told_to_stop(self) -> None:
+        self.is_stopping = True
+        # CPython waits for ever in a `get` with a time which a signal interrupts, where the time is over by then and
+        # there is no message.
+        self.inbox.put(None)
+
+    def _broken_off(self) -> None:
+        if self.follower is not None:
+            self.follower.kill()

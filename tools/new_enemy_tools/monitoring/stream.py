@@ -87,6 +87,8 @@ class Stream(Core):
         self.numbering = Numbering([] if before is None else before.named)
         self.strata: dict[Name, int] = {}
         self._rules = 0
+        # what reads a file, and learns the usual forms of its lines
+        self._events: Optional[Events] = None
         # what the runs before know of versions, and whether they may lack some
         self._before_issued: set[tuple[str, str, str]] = set() if before is None else {(row[0][0], row[0][1],
             row[0][2]) for row in before.issued}
@@ -114,7 +116,9 @@ class Stream(Core):
     def _read(self, chunk: Chunk) -> Lines:
         lines = Lines(ids=self.ids)
         lines.facts.is_chained = True
-        for piece in Events(chunk.file, self.refusals).pieces(Block(chunk.first, chunk.data), self.refusals):
+        if self._events is None or self._events.path != chunk.file:
+            self._events = Events(chunk.file, self.refusals)
+        for piece in self._events.pieces(Block(chunk.first, chunk.data), self.refusals):
             lines.add_piece(piece)
         return lines
 
