@@ -138,13 +138,14 @@ class InRuns(Case):
         runs = 0
         for number, data in enumerate(dict.fromkeys(data for data in traces if len(data) < SHORT)):
             lines = [line + b"\n" for line in data.split(b"\n") if line]
-            numbers = [int(found) for found in NUMBER.findall(data) if len(found) < 19]
-            lines.append(b'{"kind":"commit","at":%d}\n' % (max(numbers, default=0) + 1))
+            newest = max(map(int, NUMBER.findall(data)), default=0)
+            lines.append(b'{"kind":"commit","at":%d}\n' % (newest + 1))
             wanted = self.audited(lines)
-            if wanted is None:
+            # behind the greatest timestamp there is none that settles
+            if wanted is None or newest >= 2 ** 64 - 2:
                 continue
             with self.subTest(number=number, data=data[:200]):
-                runs += self.compare(Random("rows %d" % number), lines, [max(numbers, default=0)] * len(lines), wanted).runs
+                runs += self.compare(Random("rows %d" % number), lines, [newest] * len(lines), wanted).runs
         self.assertGreater(runs, 200)
 
     def test_a_run_that_is_killed_is_repeated(self) -> None:

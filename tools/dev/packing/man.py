@@ -5,7 +5,8 @@ from typing import Iterator
 
 from packing.shapes import Shape
 
-STATUSES = (("0", "clean, or done"), ("1", "dirty"), ("2", "input refused"), ("3", "usage"), ("4", "out of memory"), ("5", "a device failed"))
+STATUSES = (("0", "clean, or done"), ("1", "dirty"), ("2", "input refused"), ("3", "usage"), ("4", "out of memory"), ("5", "a device failed"),
+            ("6", "nothing was found, and not everything was looked at"))
 STATUSES_OF_TOOLS = (("0", "done"), ("1", "what was looked for was found, as the command says"), ("2", "input refused"), ("3", "usage"),
                      ("5", "a file, a program or the network failed"))
 STANDARD_INPUT = ("Joined input is a trace, a line that is --- and nothing else, and evidence. A trace or evidence that comes by a pipe is the "
@@ -94,7 +95,9 @@ Examples:
     new_enemy make trace.jsonl > evidence.jsonl
     new_enemy audit trace.jsonl evidence.jsonl --workers 4
     new_enemy history trace.jsonl doc:plan#viewer@20
-    tail -n +1 -F trace.jsonl | new_enemy follow --heartbeat"""
+    tail -n +1 -F trace.jsonl | new_enemy follow --heartbeat
+    new_enemy follow monday.jsonl --carry monday.carry
+    new_enemy follow tuesday.jsonl --from monday.carry --carry tuesday.carry"""
 ABOUT_TOOLS = """Tools in Python, tested and not proved: they make traces of the logs of a service, and say what the findings of an audit mean. \
 Their own texts call the command ne.
 
