@@ -106,7 +106,7 @@ def main():
         took, after = time.monotonic() - start, resource.getrusage(resource.RUSAGE_CHILDREN)
         if run.returncode != 1 or "findings %d\n" % WRONG not in run.stdout or "not audited" in run.stdout:
             sys.exit("day %d: status %d\n%s%s" % (day, run.returncode, run.stdout, run.stderr))
-        state = os.path.getsize(os.path.join(given.folder, "days", "day%06d" % day, "state"))
+        state = sum(os.path.getsize(os.path.join(given.folder, "days", "day%06d" % day, name)) for name in ("carry", "carried"))
         print("%d, %.0f, %.1f, %.1f, %.0f, %.1f, %.1f" % (
             day, os.path.getsize(log) / 1e6, took, after.ru_utime + after.ru_stime - before.ru_utime - before.ru_stime, after.ru_maxrss / 1e3,
             state / 1e6, os.getloadavg()[0]), flush=True)

@@ -133,6 +133,22 @@ def is_utf8(data: bytes) -> bool:
     return True
 
 
+def kind_of(raw: bytes) -> str:
+    """What a line is that the program takes; an empty text for a blank one. Of a repeated key the last counts."""
+    if raw.count(b'"kind"') == 1 and b"\\" not in raw:
+        for start, kind in ((CHECK_START, "check"), (COMMIT_START, "commit"), (CONTENT_START, "content"), (NAMESPACE_START, "namespace")):
+            if raw.startswith(start):
+                return kind
+    return str(strictjson.object_of(raw)["kind"]) if raw.strip(strictjson.BLANK) else ""
+
+
+def commit_at(raw: bytes) -> Optional[int]:
+    """The timestamp of a commit; None of any other line, and of one that the program does not take."""
+    value = value_in(raw)
+    at = value.get("at")
+    return at if value.get("kind") == "commit" and strictjson.is_u64(at) else None
+
+
 def may_issue(raw: bytes) -> bool:
     """Whether an entry may be a content check that issues a version; certain of one that has no escape."""
     return b"\\" in raw or b'"content"' in raw and b'"version"' in raw
@@ -161,25 +177,12 @@ OBJECTS = compiled(rb'(\{"kind": ?"(?:check|content)", ?"goal": ?' + _FACT + rb"
                      + rb"|(?:\n|" + _STANDS_EVERYWHERE + rb")++)|([^\n]*+\n)")
 RECORDS = compiled(rb'(\{"line": ?(' + _NUMBER + rb'), ?"steps": ?\[(?:' + _STEP + rb"(?:, ?" + _STEP + rb")*+)?+\]" + _END
                      + rb"|\n++)|([^\n]*+\n)")
-_GOAL = rb'"[a-z][a-z0-9_]*+:[^"\\#@\x00-\x20]++#[a-z][a-z0-9_]*+@' + _NUMBER + rb'"'
-_MEMBERS = (rb'(?:, ?(?:"(?:zookie|version|' + b"|".join(SAID) + rb')": ?"[^"\\\x00-\x1f]*+"|"again": ?true))*+' + _END)
-_ENTRY = rb'\{"kind": ?"%s", ?"goal": ?' + _GOAL + rb', ?"snapshot": ?(' + _NUMBER + rb'), ?"reply": ?%s' + _MEMBERS
-# Each match is a line: a check with its snapshot in the first group, or any other in the second.
-SNAPSHOTS = compiled(_ENTRY % (b"check", b"(?:true|false)") + rb"|([^\n]*+\n)")
-_CONTENT = compiled(_ENTRY % (b"content", b"(true|false)"))
-_COMMIT = compiled(rb'\{"kind": ?"commit", ?"at": ?(' + _NUMBER + rb")[,}]")
+_SNAPSHOT = re.compile(rb',"snapshot":(%s),"reply":' % NUMBER)
 
 
-def commit_at(line: bytes) -> Optional[int]:
-    """The timestamp of a line that is a commit if it is a line of a trace; None of any other, and of one with a form of its own."""
-    found = _COMMIT.match(line)
-    return int(found[1]) if found and b"\\" not in line and line.count(b'"at"') == 1 and line.count(b'"kind"') == 1 else None
-
-
-def content_at(line: bytes) -> Optional[tuple[int, bool]]:
-    """The snapshot of a content check, and whether it issues a version; None of any other line, and of one with a form of its own."""
-    found = _CONTENT.fullmatch(line)
-    return None if found is None else (int(found[1]), found[2] == b"true")
+def snapshots_in(lines: bytes) -> Iterator[int]:
+    """Those of the entries of lines that an importer wrote."""
+    return map(int, _SNAPSHOT.findall(lines))
 
 
 def value_in(line: bytes) -> strictjson.Object:

@@ -1,24 +1,30 @@
 """A world for the core of a monitor: a log that grows, a program that follows, receivers that fail, a disk, and kills
 at any moment.
 
-What the program says is what the definitions say, by the tools' own reading. All is drawn by a seed.
+What the program says of lines is what the definitions say, by the tools' own reading; what a run hands on the program has made. All is drawn
+by a seed.
 """
 import copy
 import json
+import os
+import subprocess
+import tempfile
 from collections import Counter
 
 from new_enemy_tools.ids import Ids
 from new_enemy_tools.meaning import Settled
-from new_enemy_tools.monitoring.core import BeginAnew, Core, EndRun, Feed, Keep, Left, Settings
+from new_enemy_tools.monitoring.core import BeginAnew, Core, EndRun, Feed, Keep, Settings
 from new_enemy_tools.monitoring.delivery import Send
 from new_enemy_tools.monitoring.holding import Holding
 from new_enemy_tools.monitoring.run import Begun, Run
 from new_enemy_tools.monitoring.stream import Chunk
 from new_enemy_tools.token_order import order_findings
-from new_enemy_tools.trace import read_trace
-from new_enemy_tools.windowing import carrying
-from new_enemy_tools.windowing.audited_window import NOTHING
-from new_enemy_tools.windowing.state import State
+from new_enemy_tools.monitoring.alerts import Known
+from new_enemy_tools.trace import read_lines
+from new_enemy_tools.windowing import beginning
+from new_enemy_tools.windowing.audited_window import state_behind, window_of
+from new_enemy_tools.windowing.own_lines import Own
+from new_enemy_tools.windowing.state import NOTHING
 
 EARLY = ("F1", "F2", "F3", "F5", "F6")
 
@@ -28,14 +34,22 @@ class Killed(Exception):
 
 
 class Follow:
-    """What `new_enemy follow --heartbeat` says of lines, as docs/FORMATS.md has it."""
+    """What `new_enemy follow --heartbeat` says of lines behind a carry, as docs/FORMATS.md has it."""
 
-    def __init__(self):
-        self.text, self.told, self.settled = b"", set(), 0
+    def __init__(self, state):
+        self.lines, self.last = [(row.line, row.raw) for row in state.rows], state.lines
+        # What the runs before told of the lines of the carry.
+        self.told, self.settled, self.before = set(), 0, 0
+        self.take(b"")
+        self.before = len(self.told)
 
-    def take(self, data, is_end=False):
-        self.text += data
-        trace, found = read_trace(self.text), []
+    def trace(self):
+        return read_lines((line, raw) for line, raw in self.lines if raw.strip())
+
+    def take(self, data):
+        for self.last, raw in enumerate(data.split(b"\n")[:-1], self.last + 1):
+            self.lines.append((self.last, raw))
+        trace, found = self.trace(), []
         last = trace.commits.ats[-1] if trace.commits else -1
         is_settled = [entry.snapshot <= last for entry in trace.entries.values()]
         for entry in trace.entries.values():
@@ -43,20 +57,39 @@ class Follow:
             if Settled(trace.rules, trace.store, entry.goal, entry.snapshot).holds() != entry.reply:
                 listed.append(("F10 wrong reply", None))
             for finding, related in listed:
-                if entry.snapshot <= last or is_end or finding.split()[0] in EARLY or finding.startswith("F4"):
+                if entry.snapshot <= last or finding.split()[0] in EARLY or finding.startswith("F4"):
                     found.append("line %d: %s%s" % (entry.line, finding, ", see line %d" % related if related else ""))
         new = [line for line in found if line not in self.told]
         self.told.update(new)
-        if is_end:
-            return new + ["entries %d" % len(trace.entries), "findings %d" % len(self.told),
-                          "verdict %s" % ("dirty" if self.told else "clean")]
         if sum(is_settled) > self.settled:
             self.settled = sum(is_settled)
             unsettled = [line for line, one in zip(trace.entries, is_settled) if not one]
-            through = unsettled[0] - 1 if unsettled else self.text.count(b"\n")
+            through = unsettled[0] - 1 if unsettled else self.last
             new.append("through line %d: %d entries, %d findings, %d open" % (
-                through, len([line for line in trace.entries if line <= through]), len(self.told), len(unsettled)))
+                through, len([line for line in trace.entries if line <= through]), len(self.told) - self.before, len(unsettled)))
         return new
+
+    def end(self, state):
+        trace, count = self.trace(), len(self.told) - self.before
+        last = trace.commits.ats[-1] if trace.commits else -1
+        return ["not audited 0", "open %d" % sum(entry.snapshot > last for entry in trace.entries.values()),
+                "entries %d" % sum(line > state.lines for line in trace.entries), "findings %d" % count, "verdict %s" % ("dirty" if count else "clean")]
+
+
+def handed_on(run, data):
+    """What a run comes to, by the carry that the program makes of its lines."""
+    with tempfile.TemporaryDirectory() as folder:
+        paths = [os.path.join(folder, name) for name in ("trace", "begun", "carry")]
+        for path, given in zip(paths, (data, b"" if run.state.carry is None else run.state.carry.data)):
+            with open(path, "wb") as file:
+                file.write(given)
+        begun = [] if run.state.carry is None else ["--from", paths[1]]
+        ended = subprocess.run([os.environ["NEW_ENEMY"], "follow", paths[0], *begun, "--carry", paths[2], "--oldest-snapshot", str(run.oldest)],
+                               stdout=subprocess.DEVNULL, timeout=300)
+        assert ended.returncode in (0, 1)
+        with open(paths[2], "rb") as file:
+            new, given_up = state_behind(Own(paths[0]), run.state, file.read(), run.keep)
+        return window_of(Own(paths[0]), run.state, new, run.told_all(ended.returncode), given_up, True, run.stream.coverage())
 
 
 class Disk:
@@ -64,7 +97,7 @@ class Disk:
 
     def __init__(self):
         self.rows, self.marks = [], {}
-        self.runs = [(Begun(None, NOTHING, Ids()), Left({}, []), 0)]
+        self.runs = [(Begun(None, NOTHING, Ids()), {}, 0)]
         self.counts, self.entries = Counter(), 0
 
 
@@ -94,13 +127,13 @@ class Life:
         self.begin(None)
 
     def begin(self, holding, stop=None):
-        begun, left, at = self.disk.runs[-1]
-        self.own, self.follow, self.feeds = [], Follow(), False
+        begun, stories, at = self.disk.runs[-1]
+        self.own, self.follow = [], None
         self.run = Run(Begun(begun.left, begun.state, copy.deepcopy(begun.ids)), self.has_between,
-                       lambda line: self.own[line - 1 - begun.state.head.lines])
+                       lambda line: self.own[line - 1 - begun.state.lines], beginning.Keep(0))
         if holding is None:
             holding, self.at = Holding(self.core.settings.hold, len(self.disk.runs) > 1, stop), at
-        self.core.begin(self.run, len(self.disk.runs), left, holding, self.now)
+        self.core.begin(self.run, len(self.disk.runs), stories, holding, self.now)
 
     def step(self):
         """At any moment it may be killed."""
@@ -111,10 +144,10 @@ class Life:
         for out in outs:
             self.step()
             if isinstance(out, Feed):
-                front = b"" if self.feeds else self.run.front()
-                self.feeds = True
+                if self.follow is None:
+                    self.follow = Follow(self.run.state)
                 self.own += out.data.split(b"\n")[:-1]
-                self.hear(self.follow.take(front + out.data))
+                self.hear(self.follow.take(out.data))
             elif isinstance(out, Keep):
                 self.disk.rows.append(json.loads(json.dumps(out.row)))
             elif isinstance(out, Send):
@@ -136,15 +169,17 @@ class Life:
         self.do(self.core.tell(self.now))
 
     def end(self):
-        carry = self.run.close(carrying.Keep(0))
-        for line in self.follow.take(b"", True):
+        self.run.close()
+        for line in self.follow.end(self.run.begun.state):
             self.core.said(line, self.now)
         self.do(self.core.tell(self.now, True))
+        found = handed_on(self.run, b"".join(line + b"\n" for line in self.own))
+        self.run.end(found)
         counts = self.core.counts - self.core.ended
-        left, at = self.core.leave(), self.at - len(self.core.holding.lines)
-        begun = Begun(self.run.stream.leave(), State(carry.head, carry.rows, None), self.run.begun.ids)
+        stories, at = self.core.leave(), self.at - len(self.core.holding.lines)
+        begun = Begun(self.run.stream.leave(), found.new, self.run.begun.ids)
         self.step()
-        self.disk.runs.append((begun, json_left(left), at))
+        self.disk.runs.append((begun, as_read(stories), at))
         self.disk.counts.update(counts)
         self.disk.entries += self.run.entries
         self.step()
@@ -173,12 +208,9 @@ class Life:
             self.do(self.core.due(self.now))
 
 
-def json_left(left):
-    """As the disk has it."""
-    read = json.loads(json.dumps({"stories": {key: list(one) for key, one in left.stories.items()}, "held": left.held}))
-    from new_enemy_tools.monitoring.alerts import Known
-    return Left({key: Known(*one) for key, one in read["stories"].items()},
-                [(source, finding) for source, finding in read["held"]])
+def as_read(stories):
+    """As the disk has them."""
+    return {key: Known(*one) for key, one in json.loads(json.dumps({key: list(one) for key, one in stories.items()})).items()}
 
 
 def told_by(lines, random, kills, has_between, nights=0.0, lives=200):

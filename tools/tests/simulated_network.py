@@ -155,10 +155,12 @@ class Wire:
         self.asked, self.answering = deque(), None
         self.sent = self.went = self.got = self.free = 0
         self.is_open, self.is_leaving, self.service = True, False, None
-        self.client = Transport(world, world.relay.client(), Ending(self))
+        self.proxy = world.proxies[-1]
+        self.client = Transport(world, self.proxy.relay.client(), Ending(self))
         self.client.wire = self
         world.wires.append(self)
         self.client.protocol.connection_made(self.client)
+        world.go_on()
 
     # The client
 
@@ -184,7 +186,7 @@ class Wire:
         self.went += count
         for thing, end, _ in self.asked:
             if end <= self.went and not thing.has_passed:
-                thing.has_passed, thing.began, thing.world = True, self.world.now, self.world.teller.end and self.world.teller.end.keeper
+                thing.has_passed, thing.began, thing.world = True, self.world.now, self.proxy.teller.end and self.proxy.teller.end.keeper
 
     def come(self, data):
         self.got += len(data)

@@ -5,6 +5,7 @@ Simulated are the sockets and the clocks. Requests and answers come in pieces an
 can be read in two ways, and the service reads them in one of these; there are more clients than there may be; the disk is full for a while;
 and keeper and proxy are killed, also in the midst of a line, or ended, and begun again with what they left.
 """
+import errno
 import gzip
 import io
 import json
@@ -23,6 +24,7 @@ from new_enemy_tools.importing.refusals import Refusals
 from new_enemy_tools.importing.times import nanoseconds, text_of_time
 from new_enemy_tools.recording import bodies, core, http_reading, keeper, log_files, messages, openfga_feed, reader, relay
 from new_enemy_tools.recording.asking import FeedFault
+from new_enemy_tools.recording.core import Faulty
 from new_enemy_tools.recording.keeper import Keeper, Settings
 from new_enemy_tools.recording.lines import time_text
 from new_enemy_tools.recording.log_files import LogFault
@@ -42,6 +44,7 @@ WIRES = 3
 OFTEN = {"strange": 0.2, "loose": 0.1, "odd": 0.1, "long": 0.05, "fails": 0.05, "cut": 0.05, "ends": 0.05}
 # How many bytes of an answer are kept, and may wait at each place, in place of megabytes; how late things are given up, in steps.
 BODY, ROOM, PIPE, AGAIN, LAST = 2000, 1500, 500, 20, 60
+STARVED = "the service can't be asked: Too many open files"
 # How many files there may be open beside one for each client.
 SPARE = 4
 
@@ -58,6 +61,13 @@ def message(random, first, headers, body):
     at = random.randint(1, len(body))
     chunks = b"".join(b"%x\r\n%s\r\n" % (len(one), one) for one in (body[:at], body[at:]) if one)
     return b"\r\n".join([first, *headers, b"Transfer-Encoding: chunked", b"", chunks + b"0\r\n\r\n"])
+
+
+def bare(random, data):
+    """Some ends of lines without their first sign, as the head's last one; some read them all the same."""
+    ends = [place for place in range(len(data)) if data.startswith(b"\r\n", place)]
+    taken = random.choice((ends, random.sample(ends, random.randint(1, len(ends))), [data.index(b"\r\n\r\n") + 2]))
+    return b"".join(data[start:end] for start, end in zip([0, *(place + 1 for place in sorted(taken))], [*sorted(taken), len(data)]))
 
 
 class Killed(BaseException):
@@ -108,6 +118,15 @@ class Check(Asked, Thing):
                 self.all.later(0, 8, self.all._show, self)
 
 
+class Proxy:
+    """A proxy's process."""
+
+    def __init__(self, most):
+        self.teller, self.again_at = Teller(None), None
+        self.relay = Relay(urlsplit("http://service"), self.teller, call_of, most)
+        self.relay.server = Nobody()
+
+
 class Kept(Keeper):
     """A keeper without its threads, and what it knows, as a world has it."""
 
@@ -131,6 +150,8 @@ class Kept(Keeper):
 
     def work(self):
         """Takes what has come."""
+        if not self.is_open and self.inbox and isinstance(self.inbox[-1], Bye):
+            self.world.own(LAST, LAST + 1, self._give_up)
         if self.is_busy or not self.is_open:
             return
         self.is_busy = True
@@ -145,6 +166,13 @@ class Kept(Keeper):
             self.gone_at = self.world.now / 1e9
         if self.end.data or self.end.is_ended and not self.core.is_over:
             self.end.move()
+
+    def _give_up(self):
+        """Another keeper has the folder still."""
+        if self in self.world.nexts:
+            self.world.nexts.remove(self)
+            self._take(list(self.inbox), 0)
+            self._leave()
 
     def _note(self, message):
         """Of a write that passed it is known that it came, when its answer is told."""
@@ -171,6 +199,9 @@ class Source:
 
     def changes(self, store, size, token):
         world = self.world
+        if world.is_starved:
+            world.found = []
+            raise FeedFault(STARVED)
         world.wait(0, 3)
         *before, other = map(int, token.split(".")) if token else (0, 0, 0)
         listed, cursor = world.service.page(world.now, tuple(before), min(size, world.cap))
@@ -201,9 +232,13 @@ class Whole(World):
         self.most = self.random.choice((2, 3, 100)) if has_troubles else 100
         # how often a request is strange, says two things, or gets an answer that is too long, a fault or is cut, and how often a side ends
         self.often = {name: has_troubles and self.random.choice((0, 0, often)) for name, often in OFTEN.items()}
+        # more troubles, of which some runs have none; and how often the ends of lines are bare
+        self.more = Random("more %d" % seed)
+        self.often_bare = self.more.choice((0, 0, 0.1)) if has_troubles else 0
         self.wires, self.transports, self.soon, self.found = [], [], [], []
-        self.relay, self.teller, self.kept, self.nexts, self.again_at = None, None, None, deque(), None
-        self.is_full = self.tears = self.is_ending = self.has_lost_keeper = self.is_left_open = False
+        # the proxies that run, the last of which gets all new clients; the keeper that has the folder, and those that wait for it
+        self.proxies, self.kept, self.nexts = [], None, deque()
+        self.is_full = self.is_starved = self.tears = self.is_ending = self.has_lost_keeper = self.is_left_open = False
         self.pipe = PIPE if has_troubles else 1 << 20
         # how many changes the service gives at most, and how often it gives none although there are some
         self.empties = Random("pages %d" % seed)
@@ -224,6 +259,7 @@ class Whole(World):
                 stack.enter_context(mock.patch.object(module, name, value))
             stack.enter_context(mock.patch.object(core, "TOGETHER", 10 * STEP))
             stack.enter_context(mock.patch.object(log_files, "_write_all", self._write_all))
+            stack.enter_context(mock.patch.object(log_files, "os", types.SimpleNamespace(**{**vars(os), "open": self._open})))
             stack.enter_context(mock.patch.object(relay.sys, "stderr", io.StringIO()))
             stack.enter_context(mock.patch.object(relay.asyncio, "get_running_loop", lambda: self))
             self._begin_store()
@@ -241,6 +277,9 @@ class Whole(World):
         for work in self.random.choices((self._kill_keeper, self._tear, self._kill_proxy, self._end_proxy, self._fill, self._kill_all),
                                         k=self.random.choice((0, 1, 2, 4)) if self.has_troubles else 0):
             self.later(5, self.shape.length + 20, work)
+        for work in self.more.choices((self._starve, self._take_over), k=self.more.choice((0, 0, 1, 2)) if self.has_troubles else 0):
+            self.under_way += 1
+            self._put(self.now + STEP * self.more.randint(5, self.shape.length + 20), self._happens, work)
         self.own(0, 0, self._beat)
 
     def advance(self, length):
@@ -260,7 +299,8 @@ class Whole(World):
             raise Gone
         if not self.is_ending and not self._has_more():
             self.is_ending = True
-            self._close_proxy()
+            for proxy in list(self.proxies):
+                self._close_proxy(proxy)
 
     def _rest(self, seconds):
         if round(seconds * 1e9) > self.shape.poll * STEP:
@@ -291,11 +331,11 @@ class Whole(World):
         self.soon.append(work)
 
     def create_task(self, work):
-        self.later(0, 4, self._work, self.relay, work)
+        self.later(0, 4, self._work, self.proxies[-1], work)
         return Nobody()
 
     def _work(self, proxy, work):
-        if proxy is not self.relay:
+        if proxy not in self.proxies:
             work.close()
             return
         try:
@@ -309,10 +349,11 @@ class Whole(World):
         yield
         protocol = make()
         wire = protocol.other.transport.wire
-        if len(self.transports) >= 2 * self.most + SPARE:
+        if self.is_starved or sum(one.wire.proxy is wire.proxy for one in self.transports) >= 2 * self.most + SPARE:
             self.refused.append(self.now)
-            raise OSError(24, "Too many open files")
+            raise OSError(errno.EMFILE, "Too many open files")
         wire.service = Transport(self, protocol, wire)
+        wire.service.wire = wire
         protocol.connection_made(wire.service)
         return wire.service, protocol
 
@@ -320,16 +361,16 @@ class Whole(World):
 
     def _start(self):
         """A recorder begins: its proxy listens, and its keeper waits for the folder."""
-        self.teller, self.transports = Teller(None), []
-        self.relay = Relay(urlsplit("http://service"), self.teller, call_of, self.most)
-        self.relay.server = Nobody()
-        self._start_keeper()
+        self.proxies.append(Proxy(self.most))
+        self._start_keeper(self.proxies[-1])
 
-    def _start_keeper(self):
-        self.again_at = None
+    def _start_keeper(self, proxy):
+        proxy.again_at = self.now + AGAIN * STEP if self.is_starved else None
+        if self.is_starved:
+            return
         kept = Kept(self)
         self.nexts.append(kept)
-        self.teller.end = kept.end
+        proxy.teller.end = kept.end
 
     def _live(self):
         """The life of a keeper."""
@@ -338,11 +379,13 @@ class Whole(World):
         kept, self.is_left_open = self.nexts.popleft(), False
         self.kept = kept
         self.core, self.found = kept.core, []
+        while self.is_starved:
+            self.advance(STEP)
         try:
             kept.take_over()
             kept.is_open = True
             kept.work()
-            kept.feed.run(kept.core.left, self._put_read)
+            self._read_feed(kept)
         except FeedFault as fault:
             self.faulty.append("the feed: %s" % fault)
             self.is_ending = True
@@ -354,6 +397,17 @@ class Whole(World):
         kept.let_go()
         self.before, self.kept = kept, None
 
+    def _read_feed(self, kept):
+        """As a thread of the keeper does."""
+        while True:
+            try:
+                kept.feed.run(kept.core.left, self._put_read)
+            except FeedFault as fault:
+                if str(fault) != STARVED:
+                    raise
+                self._came(kept, Faulty(STARVED))
+                self.wait(5, 10)
+
     def _end_keeper(self, kept):
         try:
             kept._end_log()
@@ -362,20 +416,22 @@ class Whole(World):
 
     def _lose_keeper(self, kept):
         self.has_lost_keeper = self.is_left_open = True
-        if self.relay is not None and self.teller.end is kept.end:
-            kept.end.is_broken = True
-            self.teller.forget()
-            self.again_at = self.now + AGAIN * STEP
+        for proxy in self.proxies:
+            if proxy.teller.end is kept.end:
+                kept.end.is_broken = True
+                proxy.teller.forget()
+                proxy.again_at = self.now + AGAIN * STEP
 
     def _beat(self):
         self.own(2, 2, self._beat)
-        if self.relay is not None:
-            self.teller.catch_up()
-            if self.teller.size > ROOM + BODY // 2:
+        for proxy in self.proxies:
+            proxy.teller.catch_up()
+            if proxy.teller.size > ROOM + BODY // 2:
                 self.faulty.append("more waits for the keeper than there is room for")
-            if self.again_at is not None and self.now > self.again_at:
-                self._start_keeper()
+            if proxy.again_at is not None and self.now > proxy.again_at:
+                self._start_keeper(proxy)
         if self.kept is not None and self.kept.is_open and not self.kept.is_busy:
+            self.kept._take_beside()
             self.core.tick(self._at())
             self.kept.inbox.append(Beat(0))
             self.kept.work()
@@ -392,48 +448,74 @@ class Whole(World):
         self.is_full = True
         self.later(2, 60, lambda: setattr(self, "is_full", False))
 
-    def _kill_proxy(self):
-        if self.relay is not None and not self.is_ending:
-            self.relay = self.again_at = None
-            for one in self.transports:
+    def _starve(self):
+        """No process may open one more file."""
+        self.is_starved = True
+        self.later(2, 60, lambda: setattr(self, "is_starved", False))
+
+    def _open(self, *given):
+        if self.is_starved:
+            raise OSError(errno.EMFILE, "Too many open files")
+        return os.open(*given)
+
+    def _take_over(self):
+        """A second proxy gets all new clients, while the first goes on with those that it has, until it is ended or killed; or the second is
+        before."""
+        if self.proxies and not self.is_ending:
+            first = self.proxies[-1]
+            self._start()
+            for proxy in self.random.choice(([first], self.proxies[-2:], self.proxies[:-3:-1])):
+                self.later(5, 60, self.random.choice((self._kill_proxy, self._end_proxy)), proxy)
+
+    def _kill_proxy(self, proxy=None):
+        proxy = proxy or self.proxies and self.proxies[-1]
+        if proxy in self.proxies and not self.is_ending:
+            self.proxies.remove(proxy)
+            for one in [one for one in self.transports if one.wire.proxy is proxy]:
+                self.transports.remove(one)
                 one.kill()
-            self.transports = []
-            if self.teller.end is not None:
-                self.teller.end.close()
-            self.has_lost_keeper |= self.teller.end is None
+            if proxy.teller.end is not None:
+                proxy.teller.end.close()
+            self.has_lost_keeper |= proxy.teller.end is None
+            self._start_again()
+
+    def _start_again(self):
+        if not self.proxies:
             self.later(2, 20, self._start)
 
     def _kill_all(self):
         self._kill_proxy()
         self._kill_keeper()
 
-    def _end_proxy(self):
-        if self.relay is not None and not self.is_ending and not self.relay.is_over:
-            self.relay.stop()
-            self.later(0, 30, self._close_proxy, self.relay, True)
+    def _end_proxy(self, proxy=None):
+        proxy = proxy or self.proxies and self.proxies[-1]
+        if proxy in self.proxies and not self.is_ending and not proxy.relay.is_over:
+            proxy.relay.stop()
+            self.later(0, 30, self._close_proxy, proxy)
 
-    def _close_proxy(self, proxy=None, is_again=False):
-        if self.relay is None or is_again and proxy is not self.relay:
+    def _close_proxy(self, proxy):
+        if proxy not in self.proxies:
             return
-        if not self.relay.is_over:
-            self.relay.stop()
-        closing = self.relay.close()
+        if not proxy.relay.is_over:
+            proxy.relay.stop()
+        closing = proxy.relay.close()
         try:
             closing.send(None)
         except StopIteration:
-            self.relay = self.again_at = None
-        if self.teller.end is None:
+            self.proxies.remove(proxy)
+        teller = proxy.teller
+        if teller.end is None:
             # There is no keeper that could count.
             self.has_lost_keeper = True
         else:
-            self.teller.end.room = 1 << 20
-            self.teller.catch_up()
-            self.teller.tell(Bye(self.wall()))
-            self.teller.flush()
-            if self.teller.end is not None:
-                self.teller.end.close()
-        if is_again:
-            self.later(2, 20, self._start)
+            teller.end.room = 1 << 20
+            teller.catch_up()
+            teller.tell(Bye(self.wall()))
+            teller.flush()
+            if teller.end is not None:
+                teller.end.close()
+        if not self.is_ending:
+            self._start_again()
 
     # What the feed reads
 
@@ -466,6 +548,9 @@ class Whole(World):
 
     # Requests and answers
 
+    def _with_ends(self, data):
+        return bare(self.more, data) if self.more.random() < self.often_bare else data
+
     def _is(self, name):
         return self.random.random() < self.often[name]
 
@@ -473,9 +558,9 @@ class Whole(World):
         """A connection, which may be a new one; none where nobody listens."""
         if self.wires and (self.random.random() < 0.6 or len(self.wires) >= (6 if self.has_troubles else WIRES)):
             return self.random.choice(self.wires)
-        if self.relay is None:
+        if not self.proxies or self.is_starved and self.random.random() < 0.5:
             return None
-        wire, is_over = Wire(self), self.relay.is_over
+        wire, is_over = Wire(self), self.proxies[-1].relay.is_over
         if not wire.client.is_open and not is_over:
             self.refused.append(self.now)
         return wire
@@ -554,7 +639,8 @@ class Whole(World):
         path = self.random.choice(LOOSE if self._is("loose") else PATHS)
         if asked.is_elsewhere:
             path = path.replace(b"/S/", b"/T/").replace(b"/%53/", b"/%54/")
-        return message(self.random, b"POST %s HTTP/1.1" % path, headers, json.dumps(body).encode())
+        data = message(self.random, b"POST %s HTTP/1.1" % path, headers, json.dumps(body).encode())
+        return self._with_ends(data)
 
     def _answer(self, asked):
         self._reply(asked, json.dumps({"allowed": asked.reply, **({"resolution": "x" * 2 * BODY} if asked.is_long else {})}).encode(),
@@ -567,7 +653,8 @@ class Whole(World):
         headers = [b"Content-Type: application/json"]
         if self.random.random() < 0.3:
             body, headers = gzip.compress(body), [*headers, b"Content-Encoding: gzip"]
-        thing.wire.answer(message(self.random, b"HTTP/1.1 " + status, headers, body), is_cut)
+        data = message(self.random, b"HTTP/1.1 " + status, headers, body)
+        thing.wire.answer(data if body.startswith(b"\x1f") else self._with_ends(data), is_cut)
         if self._is("ends"):
             thing.wire.service.into.end()
 

@@ -422,11 +422,14 @@ class Apart(World):
         if way == "feed" or isinstance(message, Beat):
             super()._tell(way, message)
         elif isinstance(message, Ended) and message.call == "check":
-            request = json.loads(message.request)
-            key = request["tuple_key"]
-            row = {"event": "asked", "began": time_text(message.begun), "ended": time_text(message.at), "reply": json.loads(message.response)["allowed"],
-                   "goal": [*key["object"].split(":"), key["relation"], *key["user"].split(":")], "newest": "consistency" in request}
-            self.said.append({**row, **({"saves": message.save} if message.save else {}), **({"shows": message.version} if message.version else {})})
+            self._say(message)
+
+    def _say(self, message):
+        request = json.loads(message.request)
+        key = request["tuple_key"]
+        row = {"event": "asked", "began": time_text(message.begun), "ended": time_text(message.at), "reply": json.loads(message.response)["allowed"],
+               "goal": [*key["object"].split(":"), key["relation"], *key["user"].split(":")], "newest": "consistency" in request}
+        self.said.append({**row, **({"saves": message.save} if message.save else {}), **({"shows": message.version} if message.version else {})})
 
     def _answer_write(self, number, changes, asked, committed):
         """The recorder does not see it."""

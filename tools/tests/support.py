@@ -3,6 +3,7 @@ import contextlib
 import io
 import json
 import os
+import shutil
 import subprocess
 import sys
 import tempfile
@@ -99,6 +100,18 @@ class Case(unittest.TestCase):
             except SystemExit as end:
                 status = end.code
         return Run(status, out.getvalue(), err.getvalue())
+
+    def audit_window(self, trace, *words, is_first=False, is_last=False):
+        """A run of `ne window` from `state` in the folder, where that is there, to a new one in its place."""
+        if is_first:
+            shutil.rmtree(self.path("state"), ignore_errors=True)
+        state = ["--state", "state"] if os.path.exists(self.path("state")) else []
+        run = self.run_tool("window", "audit", trace, *state, *(["--final"] if is_last else ["--out", "state.next"]), *words,
+                            "--program", os.path.abspath(os.environ["NEW_ENEMY"]))
+        if os.path.exists(self.path("state.next")):
+            shutil.rmtree(self.path("state"), ignore_errors=True)
+            os.rename(self.path("state.next"), self.path("state"))
+        return run
 
     def run_import(self, *words):
         """The status and the standard error of an import in the folder."""

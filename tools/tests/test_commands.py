@@ -23,7 +23,7 @@ def run(words: Sequence[str], **how: object) -> Run:
 class Commands(Case):
     def test_help(self) -> None:
         for words in ([], *([name] for name in ne.COMMANDS), *(["parts", name] for name in ("cut", "run", "one", "merge")),
-                      *(["window", name] for name in ("audit", "state", "show"))):
+                      *(["window", name] for name in ("audit", "show"))):
             said = self.run_tool(*words, "--help")
             self.assertEqual((said.returncode, said.stderr), (0, ""), words)
             self.assertEqual(said.stdout.split(" [-h]")[0], "usage: " + " ".join(["ne", *words]))
@@ -44,7 +44,7 @@ class Commands(Case):
 
     def test_files_that_are_not_there(self) -> None:
         for words in (["lint", "none"], ["make-evidence", "none"], ["report", "none", "-"], ["explain", "none"], ["draw", "none", "3"],
-                      ["window", "audit", "none"], ["window", "state", "none", "--out", "x"], ["window", "show", "none"], ["day", "days", "trace", "none"],
+                      ["window", "audit", "none"], ["window", "show", "none"], ["day", "days", "trace", "none"],
                       ["parts", "cut", "2", "none", "folder"], ["parts", "run", "none", "none"]):
             said = self.run_tool(*words)
             self.assertEqual((said.returncode, said.stdout), (2 if words[1] == "run" else 5, ""), words)
@@ -70,7 +70,7 @@ class OnATerminal(Case):
         for words in (["import", "openfga", "--model", MODEL, "--from-empty", LOG], ["lint", TRACE], ["make-evidence", TRACE],
                       ["parts", "cut", "2", TRACE, "folder"], ["parts", "run", "true", "folder"], ["parts", "one", "true", "folder", "1"],
                       ["parts", "merge", "folder/part1.report", "folder/part2.report"], ["report", TRACE, "report"],
-                      ["window", "state", "long", "--out", "state"], ["window", "audit", "long", "--program", PROGRAM], ["explain", TRACE], ["explain", TRACE, "5"], ["draw", "long", "5"]):
+                      ["window", "audit", "long", "--program", PROGRAM], ["explain", TRACE], ["explain", TRACE, "5"], ["draw", "long", "5"]):
             with mock.patch.object(Progress, "SECONDS", -1.0):
                 said = self.run_tool(*words, err=Terminal()).stderr
             self.assertRegex(said, "^(?:\r[a-z ]*[0-9,]+ [a-z]+\x1b\\[K)+\r\x1b\\[K", words)

@@ -23,7 +23,7 @@ KILLS = int(os.environ.get("KILLS", "20"))
 PROGRAM = os.path.abspath(os.environ.get("NEW_ENEMY", os.path.join(TOP, "new_enemy")))
 WORDS = ("--program", PROGRAM, "--jobs", "1")
 LOG = [RULES, write(1, rel("1", "viewer", "anne")), content(1, "first", goal=rel("1", "reader", "anne"), token=1),
-       check(1, goal=rel("1", "reader", "anne")), check(9, goal=rel("1", "reader", "anne")), write(2, rel("2", "viewer", "bob"))]
+       check(1, goal=rel("1", "reader", "anne")), write(2, rel("2", "viewer", "bob")), check(9, goal=rel("1", "reader", "anne"))]
 NEXT = [write(4, remove=[rel("1", "viewer", "anne")]), check(4, goal=rel("1", "reader", "anne"), version="first"),
         check(4, False, goal=rel("1", "reader", "anne")), write(12, rel("2", "viewer", "carla"))]
 
@@ -46,7 +46,7 @@ class DayCase(Case):
         return self.run_tool("day", *WORDS, *options, folder, "events", *words, name)
 
     def files(self, folder):
-        """The files of the days, each with its bytes; a checksum of the state before stands in a state."""
+        """The files of the days, each with its bytes; the checksum of the carry before stands in a state."""
         found = {}
         for place, _, names in os.walk(self.path(folder)):
             for name in names:
@@ -65,13 +65,13 @@ class Days(DayCase):
         # The check at 9 was held over, until a commit came to its snapshot.
         self.assertEqual((second.returncode, second.stderr), (1, SECOND))
         self.assertEqual(self.get("days/day000002/report.txt").splitlines(), [
-            "line 6: F4 open snapshot, see line 7 (one:5)", "line 6: F10 wrong reply (one:5)", "line 9: F2 old token, see line 4 (two:2)",
+            "line 7: F4 open snapshot, see line 8 (one:6)", "line 7: F10 wrong reply (one:6)", "line 9: F2 old token, see line 4 (two:2)",
             "line 9: F10 wrong reply (two:2)", "entries 3", "findings 4", "verdict dirty"])
         # What is written out has a line for each group. The two requests got one answer, which anne's removal at 4 made wrong.
         self.assertEqual(re.sub(r"at snapshot \d+ ", "at snapshot ", second.stdout).splitlines(), [
             "1 reply wrong (2 requests), 0 stale answers that let someone in, 0 that kept someone out, 0 harmless; "
             "of 3 checks 1 names a content version, none carries a token",
-            "line 6: F10 wrong reply: check of doc:1#reader@user:anne at snapshot replied true, from one:5, effect wrong: someone was let in; "
+            "line 7: F10 wrong reply: check of doc:1#reader@user:anne at snapshot replied true, from one:6, effect wrong: someone was let in; "
             "with F4 open snapshot; asked 2 times",
             "line 9: F2 old token: check of doc:1#reader@user:anne at snapshot replied true, version first, see line 4, from two:2, effect none: "
             "no ignored commit bears on the question", "entries 3", "findings 4", "verdict dirty"])
@@ -79,7 +79,7 @@ class Days(DayCase):
         self.assertEqual(rows[0]["sums"]["wrong"], 2)
         self.assertEqual([rows[0][key] for key in ("entries", "checks", "with_version", "with_token")], [3, 3, 1, 0])
         self.assertEqual([(row["line"], row["finding"], row["effect"], row["file"], row["file_line"]) for row in rows[1:]], [
-            (6, "F10", "wrong", "one", 5), (9, "F10", "wrong", "two", 2), (6, "F4", "changed", "one", 5), (9, "F2", "none", "two", 2)])
+            (7, "F10", "wrong", "one", 6), (9, "F10", "wrong", "two", 2), (7, "F4", "changed", "one", 6), (9, "F2", "none", "two", 2)])
         self.assertEqual(rows[1]["named"], "doc:1#reader@user:anne")
         self.assertEqual(json.loads(self.get("days/day000002/summary.json")), {
             "logs": ["two"], "digest": json.loads(self.get("days/day000002/summary.json"))["digest"], "status": 1, "entries": 3, "findings": 4,
@@ -121,8 +121,8 @@ class Days(DayCase):
         for number in range(1, 5):
             self.put("log", LOG if number == 1 else [write(10 * number), check(10 * number, goal=rel("1", "reader", "anne"))])
             self.assertIn(self.day("log").returncode, (0, 1))
-        self.assertEqual([name for name in sorted(self.files("days")) if name.endswith(("state", "left", "ids.jsonl"))],
-                         ["day%06d/%s" % (day, name) for day in (3, 4) for name in ("ids.jsonl", "left", "state")])
+        self.assertEqual([name for name in sorted(self.files("days")) if name.endswith(("carried", "carry", "left", "ids.jsonl", "window.json"))],
+                         ["day%06d/%s" % (day, name) for day in (3, 4) for name in ("carried", "carry", "ids.jsonl", "left", "window.json")])
         # Of revisions below the base of the state before, the last is kept, and those of versions.
         left = json.loads(self.get("days/day000004/left").splitlines()[0])
         self.assertEqual([one[0] for one in left["named"]], [1, 9, 20, 30, 40])
@@ -137,7 +137,7 @@ class Days(DayCase):
             self.assertEqual((run.returncode, run.stdout.splitlines()[-1]), (0, "verdict clean"))
         left = json.loads(self.get("days/day000004/left").splitlines()[0])
         self.assertEqual([row[0][2] for row in left["issued"]], ["v2", "v3", "v4"])
-        self.assertEqual(self.get("days/day000004/state").count("\nv "), 2)
+        self.assertEqual(self.get("days/day000004/carry").count("\ncontent "), 3)
         self.put("log", [write(50), check(50, goal=goal, version="v2", token=50)])
         self.assertIn("line 17: audited in part, its version is not known", self.day("log", "--keep-versions", "2").stdout)
 
@@ -150,24 +150,24 @@ class Days(DayCase):
         for name in ("one", "two"):
             self.assertIn(self.day(name, "--keep-versions", "1").returncode, (0, 6))
         run = self.day("three", "--keep-versions", "1")
-        self.assertEqual((run.returncode, run.stdout.splitlines()[-1]), (6, "verdict incomplete"), run.stderr)
+        # A write below the snapshot of the check that waits came behind it.
+        self.assertEqual((run.returncode, self.get("days/day000003/report.txt").splitlines()[0]), (1, "line 6: F4 open snapshot, see line 7 (two:2)"))
         self.assertIn("audited in part 1: %s; not looked for: F3, F5" % causes.LABEL_AGAIN, run.stdout)
         self.put("four", [write(12, rel("4", "viewer", "bob")), check(12, goal=goal, version="w", token=12)])
-        # The check that waited is told with its version, of which nothing is wrong; a write below its snapshot came behind it.
-        self.assertEqual(self.day("four", "--keep-versions", "1").returncode, 1)
-        self.assertEqual(self.get("days/day000004/report.txt").splitlines()[:2], ["line 6: F4 open snapshot, see line 7 (two:2)", "entries 2"])
+        # The check that waited is told with its version, of which nothing is wrong.
+        self.assertEqual(self.day("four", "--keep-versions", "1").stdout.splitlines()[0], "entries 2")
 
     def test_gaps_are_said(self):
-        self.put("log", [*LOG, {"event": "gap", "from": "2024-01-01T00:00:00Z", "to": "2024-01-01T00:00:01Z", "reason": "why"}])
+        self.put("log", [*LOG[:-1], {"event": "gap", "from": "2024-01-01T00:00:00Z", "to": "2024-01-01T00:00:01Z", "reason": "why"}])
         run = self.day("log")
         self.assertIn("the log has gaps: a verdict says nothing of what was asked in them\n", run.stderr)
-        self.assertEqual((run.returncode, run.stdout.splitlines()[2:4]), (6, [
+        self.assertEqual((run.returncode, run.stdout.splitlines()[1:3]), (6, [
             "checks: 2 whole, and what was asked in 1 gap", "gaps in which nobody counted what was asked: 1"]))
         # A version may have been issued in the gap, on this day and on later ones.
         self.put("log", [write(3), check(3, goal=rel("1", "reader", "anne"), version="other", token=3), check(3, goal=rel("1", "reader", "anne"))])
         run = self.day("log")
         self.assertEqual((run.returncode, run.stdout.splitlines()), (6, [
-            "entries 2", "held over 1", "checks: 1 whole, 1 in part", "audited in part 1: %s; not looked for: F2, F6" % causes.VERSION_UNKNOWN, "findings 0",
+            "entries 2", "checks: 1 whole, 1 in part", "audited in part 1: %s; not looked for: F2, F6" % causes.VERSION_UNKNOWN, "findings 0",
             "verdict incomplete"]))
         self.assertEqual(run.stderr, cannot_show(NO_CONTENT, NO_COMMIT, NO_ISSUE))
 
@@ -262,7 +262,7 @@ class Refused(DayCase):
 
     def test_logs_that_are_refused(self):
         self.put("bad", [write(1), {"event": "x"}])
-        self.refused("^bad:1: its revision 1 is not later than that of one:6, 2\nbad:2: `event` is none of .*\nrefused 2\nday: the import refused the logs\n$",
+        self.refused("^bad:1: its revision 1 is not later than that of one:5, 2\nbad:2: `event` is none of .*\nrefused 2\nday: the import refused the logs\n$",
                      "days", "events", "bad")
         self.refused("none: No such file", "days", "events", "none", status=5)
         # and the day can be tried again
@@ -306,22 +306,28 @@ class Refused(DayCase):
         self.assertEqual(self.day("two").returncode, 1)
 
     def test_a_state_that_was_altered(self):
-        data = self.before["day000001/state"]
-        self.put("days/day000001/state", data[:-9])
+        for name in ("carry", "carried", "window.json"):
+            data = self.before["day000001/" + name]
+            self.put("days/day000001/" + name, data[:-9])
+            self.before = self.files("days")
+            self.refused("cut short|altered", "days", "events", "two")
+            self.put("days/day000001/" + name, data)
+
+    def put_state(self, number, files, other):
+        """The state of another day in the place of one's."""
+        for name in ("carry", "carried", "window.json"):
+            self.put("days/day%06d/%s" % (number, name), files["day%06d/%s" % (other, name)])
         self.before = self.files("days")
-        self.refused("cut short", "days", "events", "two")
 
     def test_a_state_of_another_day(self):
         self.assertEqual(self.day("two").returncode, 1)
         self.put("three", [write(13), check(13, goal=rel("2", "reader", "carla"))])
-        self.put("days/day000002/state", self.before["day000001/state"])
-        self.before = self.files("days")
+        self.put_state(2, self.before, 1)
         self.refused("^day: the state of day 2 is not that of this folder: it stands for 1 windows", "days", "events", "three")
         # One that goes on from another folder's state.
         self.put("other", [*LOG, check(2, goal=rel("2", "reader", "bob"))])
         self.assertEqual([self.day(name, folder="others").returncode for name in ("other", "two")], [0, 1])
-        self.put("days/day000002/state", self.files("others")["day000002/state"])
-        self.before = self.files("days")
+        self.put_state(2, self.files("others"), 2)
         self.refused("^day: the state of day 2 is not that of this folder: it stands for 2 windows, or goes on from another", "days", "events", "three")
 
     def test_usage(self):

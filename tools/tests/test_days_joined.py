@@ -3,8 +3,9 @@ import json
 import os
 from unittest import mock
 
-from new_enemy_tools.recording.days_joined import LATE, Before, DayJoin, join_day
+from new_enemy_tools.recording.days_joined import LATE, Before, DayJoin, join_day, kept
 from new_enemy_tools.recording.joining import OPEN, UNKNOWN
+from new_enemy_tools.recording.lines import ODD
 from new_enemy_tools.recording.log_files import LogFiles, Place
 from new_enemy_tools.recording.sketches import Given, JoinFault, Row
 from tests.simulated_crowd import run_days
@@ -45,6 +46,10 @@ class Simulated(Case):
                 return
         self.fail(fault)
 
+    def test_a_change_that_is_read_after_the_day_that_it_belongs_to(self):
+        _, verdict = run_days(11021240)
+        self.assertEqual(verdict.faults(), [])
+
     def test_a_cut_that_parts_content_from_what_it_may_have_seen(self):
         with mock.patch.object(DayJoin, "_spans", lambda self, log: [(place, place) for place, _ in SPANS(self, log)]):
             self.assert_finds("content is left out that was there in time")
@@ -70,6 +75,15 @@ def joined(before, *logs, over=(), skew=0):
 class Parts(Case):
     FIRST = lines(change(1, "a"), check(1, 3), change(2, "b"), check(2, 5), change(3, "c"), check(3, 7))
     SECOND = lines(change(1, "a"), check(1, 4), change(2, "b"), check(2, 6))
+
+    def test_a_tuple_that_is_read_out_of_turn_stands_as_it_was_read(self):
+        """Its deletion between two writes of it is read on the next day; what depends on it is not audited on any day."""
+        first = lines(change(1, "a"), change(2, "a", at=4))
+        made, before, _ = joined(Before(), ("left", first))
+        self.assertEqual([row.get("reason", row["event"]) for row in made[2:]], [ODD, "write", ODD, "write"])
+        before = kept(json.loads(json.dumps(before._asdict())))
+        made, _, _ = joined(before, ("left", [*first, change(3, "a", "remove", at=3), check(3, 9)]))
+        self.assertEqual([row.get("reason", row["event"]) for row in made], [ODD, "write", "check"])
 
     def test_a_day_ends_where_each_log_has_come(self):
         made, before, waiting = joined(Before(), ("left", self.FIRST), ("right", self.SECOND))

@@ -84,9 +84,7 @@ class GoingOn(CoreCase):
             self.put("log", log[low:high])
             state = ["--state", "state"] if low else []
             self.imported(*words, "--go-on", "left", *state, "--trace", "day", "--ids", "day_ids")
-            out = ["--out", "state"] if high < len(log) else ["--final"]
-            run = self.run_tool("window", "audit", "day", *state, *out, "--oldest-snapshot", "0", "--jobs", "1",
-                                "--program", os.path.abspath(os.environ["NEW_ENEMY"]))
+            run = self.audit_window("day", "--oldest-snapshot", "0", is_first=not low, is_last=high == len(log))
             self.assertIn((run.returncode, run.stderr), ((0, ""), (1, "")))
             told.take(run.stdout)
             if cut:
@@ -94,7 +92,7 @@ class GoingOn(CoreCase):
         return told.report
 
     def compare(self, log, random, *words, cut=None):
-        for name in ("left", "day_ids", "whole_ids", "state"):
+        for name in ("left", "day_ids", "whole_ids"):
             if os.path.exists(self.path(name)):
                 os.remove(self.path(name))
         self.put("log", log)
@@ -135,7 +133,7 @@ class GoingOn(CoreCase):
         third = [check(9, False, reads)]
         lines = [{**event, "sequence": number} for number, event in enumerate([*first, *second[0], *second[1], *third])]
         for names in ("early", "late"), ("late", "early"):
-            for name in "left", "ids", "state":
+            for name in "left", "ids":
                 if os.path.exists(self.path(name)):
                     os.remove(self.path(name))
             self.put("first", lines[:4])
@@ -145,9 +143,7 @@ class GoingOn(CoreCase):
             told = []
             for files in ("first",), names, ("third",):
                 self.imported("events", *files, "--go-on", "left", "--trace", "day", "--ids", "ids")
-                state = ["--state", "state"] if told else []
-                run = self.run_tool("window", "audit", "day", *state, "--out", "state", "--oldest-snapshot", "0", "--jobs", "1",
-                                    "--program", os.path.abspath(os.environ["NEW_ENEMY"]))
+                run = self.audit_window("day", "--oldest-snapshot", "0", is_first=not told)
                 told.append((run.returncode, run.stderr))
             self.assertEqual(told, [(0, "")] * 3, names)
 
@@ -177,7 +173,7 @@ class GoingOn(CoreCase):
             self.put("log", ([RULES] if number == 1 else []) + [write(10 * number, rel(str(number), "viewer", "anne"))])
             state = ["--state", "state"] if number > 1 else []
             self.imported("events", "--from-empty", "--go-on", "left", *state, "--trace", "day", "log")
-            self.assertEqual(self.run_tool("window", "state", "day", *state, "--out", "state").returncode, 0)
+            self.assertEqual(self.audit_window("day").returncode, 0)
         goal = rel("1", "viewer", "anne")
         self.put("log", [between(check(0, True, goal), 20, 30, False), between(check(0, False, goal), 19, 30, False)])
         left = self.get("left")

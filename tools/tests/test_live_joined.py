@@ -40,6 +40,10 @@ class Simulated(Case):
         for seed in range(SEEDS // 3):
             self.assertEqual(run_live(seed, models=True)[1].faults(), [], "seed %d" % seed)
 
+    def test_a_log_that_begins_among_changes_that_came_at_once(self):
+        _, verdict = run_live(1017163)
+        self.assertEqual(verdict.faults(), [])
+
     def findings(self, rows, name):
         """What an audit finds of a joined log, by where each check stands."""
         folder = self.path(name)
@@ -132,6 +136,28 @@ class Parts(Case):
         again.add("left", *left[3:])
         again.add("right", *lines(change(1, "a"), check(1, 4), change(2, "b"), check(2, 6)))
         self.assertEqual(events(again.round()), [("write", 2), ("check", 2), ("check", 2)])
+
+    def test_which_changes_a_log_began_with_its_next_ones_tell(self):
+        """One log has two changes that cancel each other before those with which another log begins, and a third has them behind these."""
+        a, b, c, d = (change(1, user, at=at) for at, user in enumerate("abcd", 1))
+        come, gone = ({**change(1, "c", side, at), side: [["document", "other", "viewer", "user", "c"]]} for side, at in (("add", 5), ("remove", 6)))
+
+        def numbered(*changes):
+            return [{**one, "revision": number} for number, one in enumerate(changes, 1)]
+        later = lines(check(0, 9), changes=4)
+        later[3]["add"] = [["document", "d", "viewer", "user", one] for one in "abcd"]
+        logs = Logs("left", "right", "later")
+        logs.add("left", *lines(a))
+        logs.add("right", *lines(*numbered(a, b, c, d)))
+        logs.add("later", *later)
+        self.assertEqual(events(logs.round())[3:], [("write", 1)])
+        logs.add("left", *numbered(a, come, gone, b, c, d)[1:])
+        self.assertEqual((logs.round(), logs.join.waits_for, logs.join.waiting), ([], ["later"], 1))
+        with self.assertRaisesRegex(JoinFault, "later does not begin with .* changes that are in no log, or too few of the next ones are in it$"):
+            logs.round("later")
+        logs.add("right", *numbered(a, b, c, d, come, gone)[4:])
+        logs.add("later", *numbered(come, gone))
+        self.assertEqual(events(logs.round()), [("write", 2), ("write", 3), ("write", 4), ("write", 5), ("write", 6), ("check", 6)])
 
     def test_what_is_refused(self):
         logs = Logs("left", "right")

@@ -2,7 +2,7 @@
 import os
 import signal
 
-from new_enemy_tools.monitoring.stopping import BROKEN_OFF
+from new_enemy_tools.monitoring.stopping import BROKEN_OFF, BROKEN_OFF_STATUS
 from tests.support import TOOLS
 from tests.test_core import check, rel, write
 from tests.test_going_on import RULES
@@ -84,7 +84,8 @@ class Stops(Monitoring):
         with open(self.path("log/000001.jsonl"), "ab") as file:
             file.write(compact(timed([check(10, False, DOC)] * 80)))
         self.wait_for(lambda: os.path.getsize(self.path("out/days/work/trace")) >= 4096)
-        self.stop(one)
+        one.send_signal(signal.SIGTERM)
+        self.ends(one, BROKEN_OFF_STATUS)
         self.assertIn(BROKEN_OFF.decode(), self.get("monitor.err"))
         self.wait_for(lambda: not os.path.exists("/proc/%d" % program))
         self.assert_goes_on()

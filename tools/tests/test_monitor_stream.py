@@ -16,7 +16,8 @@ from new_enemy_tools.monitoring.holding import STATE_WAIT, WRITE_WAIT, Holding
 from new_enemy_tools.monitoring.midnights import NoZone, midnight_after, zone_of
 from new_enemy_tools.monitoring.run import Begun, Run
 from new_enemy_tools.monitoring.stream import Chunk
-from new_enemy_tools.windowing.audited_window import NOTHING
+from new_enemy_tools.windowing.beginning import Keep
+from new_enemy_tools.windowing.state import NOTHING
 from tests.random_traits import RandomLog, events
 from tests.test_circles import Ring
 from tests.test_core import CoreCase, check, content, rel, write
@@ -35,7 +36,7 @@ class Streamed(CoreCase):
         """The trace of events that come a few at a time."""
         lines, at, now, text = lines_of(events), 0, 0.0, b""
         run, holding = Run(Begun(None, NOTHING, Ids()), has_between,
-                           lambda line: b""), Holding(1e6 if is_held else 0.0, False)
+                           lambda line: b"", Keep()), Holding(1e6 if is_held else 0.0, False)
         while at < len(lines) or holding.lines:
             count = random.randint(1, 5)
             some = lines[at:at + count]
@@ -197,6 +198,22 @@ class Held(CoreCase):
         holding = Holding(30.0, False)
         self.assertEqual(self.ready(holding, [RULES, BASE, BASE], 0.0), [])
         self.assertEqual(self.ready(holding, [PLACE], 100.0), ["rules", "write", "write", "place"])
+
+    def has_room(self, is_begun, *events):
+        """Whether more is read when some lines were looked at, and whether some could be taken."""
+        holding = Holding(30.0, is_begun)
+        holding.put(Chunk("log", 1, b"".join(lines_of(events))), 0.0)
+        self.assertFalse(holding.has_room)
+        return bool(self.taken(holding, 0.0)), holding.has_room
+
+    def test_what_is_read_ahead(self):
+        """Few lines, but of those that are held as many as it takes until some can be taken."""
+        commit = [write(1, rel(str(number))) for number in range(9)]
+        with mock.patch.multiple(holding_of, LINES=1, MOST=100, MOST_HELD=2_000):
+            self.assertEqual(self.has_room(False, RULES, *[BASE] * 99), (False, True))
+            self.assertEqual(self.has_room(True, *commit), (False, True))
+            self.assertEqual(self.has_room(True, *commit * 9), (False, False))
+            self.assertEqual(self.has_room(True, check(1), *[check(0)] * 9), (True, False))
 
     def test_the_last_write(self):
         """Until another line comes, or for a moment."""

@@ -5,13 +5,15 @@ import json
 import os
 import time
 from collections import Counter
+from unittest import mock
 
 from new_enemy_tools.importing import causes
 from new_enemy_tools.importing.times import nanoseconds, text_of_time
-from new_enemy_tools.recording import overheard
+from new_enemy_tools.recording import joining, overheard
 from new_enemy_tools.recording.openfga import CONSISTENT
 from new_enemy_tools.recording.joining import Join
 from new_enemy_tools.recording.sketches import Given, JoinFault, Row
+from tests.simulated_overheard import run_overheard
 from tests.stand_in_openfga import STORE
 from tests.support import Case
 from tests.test_joining import events
@@ -19,6 +21,7 @@ from tests.stand_in_spicedb import wrapped
 from tests.test_own_events import SECONDS, TOKENS, at, log
 from tests.test_recording_openfga import EARLY, FIXED, MODEL, USERS, OpenFga, key
 
+SEEDS = 250
 KEY = {"object": "document:d", "relation": "viewer", "user": "user:a"}
 
 
@@ -99,7 +102,8 @@ class OfSpiceDb(Case):
         rows = [row for number, one in enumerate([*odd, ASKED]) for row in (payload(number, 5, one, content={"version": "v"} if one in odd[4:] else None),
                                                                            payload(number, 6, told(1)))]
         made, _ = joined(TOKENS, rows)
-        self.assertEqual([row["event"] for row in made if row["event"] in ("check", "content", "unmapped")].count("unmapped"), len(odd))
+        # Where the object of a version is not known, the check is a gap.
+        self.assertEqual(sum(row["event"] == "unmapped" or row.get("lost") == 1 for row in made), len(odd))
         self.assertEqual([row["goal"][1] for row in made if row["event"] == "check"], ["d"])
 
     def test_what_is_refused(self):
@@ -113,6 +117,39 @@ class OfSpiceDb(Case):
             self.assertEqual(str(found.exception), said)
 
 
+class Simulated(Case):
+    """OpenFGA's log, and taps, whose clocks may be apart from that of the recorder."""
+
+    def test_no_right_reply_is_accused_and_no_wrong_one_passes(self):
+        recorded = lost = 0
+        for seed in range(SEEDS):
+            _, verdict = run_overheard(seed)
+            self.assertEqual(verdict.faults(), [], "seed %d" % seed)
+            recorded, lost = recorded + len(verdict.entries), lost + verdict.lost
+        self.assertGreater(2 * recorded, lost)
+
+    def test_a_model_that_changes(self):
+        for seed in range(SEEDS // 3):
+            self.assertEqual(run_overheard(seed, models=True)[1].faults(), [], "seed %d" % seed)
+
+    def assert_finds(self, fault):
+        """Some seed shows the fault."""
+        for seed in range(1000):
+            if any(one.startswith(fault) for one in run_overheard(seed)[1].faults()):
+                return
+        self.fail(fault)
+
+    def test_clocks_that_are_apart_by_more_than_it_is_told(self):
+        kept = joining.placing_of
+        with mock.patch.object(joining, "placing_of", lambda sketches, own, skew, *more: kept(sketches, own, 0, *more)):
+            self.assert_finds("a right reply is called wrong")
+
+    def test_a_version_that_a_check_saved_which_can_not_be_read(self):
+        """Of what object is not known, so any later check of such a label is audited without it."""
+        with mock.patch.object(overheard, "_unread", lambda call, lost: lost):
+            self.assert_finds("a version that was saved is not known")
+
+
 class Parts(Case):
     def places(self, rows):
         return [row.get("newest_between") or row.get("snapshot_between") or row.get("reason") for row in rows if row["event"] in ("check", "content", "unmapped")]
@@ -121,6 +158,12 @@ class Parts(Case):
         for took, place in ((3, [1, 1]), (6, [0, 1])):
             made, _ = joined(log((10, "a"), (20, "b")), [logged(15)], took * SECONDS)
             self.assertEqual(self.places(made), [place])
+
+    def test_a_version_that_a_check_saved_which_can_not_be_read(self):
+        """Where its object is not known it is a gap before all that may show it, in whatever order the files of taps have their names."""
+        made, _ = joined(log((10, "a")), [logged(20, version="v"), logged(15, content={"version": "v"}, store_id="S", raw_request=None), logged(30)])
+        self.assertEqual([(row["event"], row.get("reason"), row.get("lost")) for row in made[3:]], [
+            ("gap", causes.UNREADABLE, 1), ("check", None, None), ("check", None, None), ("gap", "heard has no end, since its process runs or was killed", None)])
 
     def test_what_came_within_the_millisecond_that_is_cut(self):
         rows = log((10, "a"))

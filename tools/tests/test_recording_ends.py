@@ -4,6 +4,7 @@ import signal
 import threading
 from collections import Counter
 
+from new_enemy_tools.recording.keeper import BESIDE
 from tests.recorded import READY, Client, Recorded
 from tests.stand_in_openfga import STORE
 from tests.support import TOOLS
@@ -223,6 +224,23 @@ class Killed(Ending):
         # What waited had its answer up to so long before the last line.
         self.assertLess(gaps[0]["from"], last)
         self.assertNotIn("is not closed", self.import_log())
+        self.assertEqual(self.found(), {}, self.said_of_audit)
+
+    def test_a_recorder_that_ends_while_it_waits_for_the_folder(self):
+        """What passed it is a gap of the log of the other one, which goes on."""
+        self.begin()
+        waiting, first = self.start_recorder(is_ready=False, said="waiting"), self.client
+        self.client = Client(self.port)
+        self.addCleanup(self.client.close)
+        for user in "a", "b":
+            self.ask(user)
+        self.end(waiting, 5)
+        self.client = first
+        self.wait_for(lambda: self.lost()[BESIDE])
+        self.ask("last")
+        self.end(self.recorder)
+        self.assertEqual((self.users(), self.lost()), ({"first", "last"}, Counter({BESIDE: 2})))
+        self.import_log()
         self.assertEqual(self.found(), {}, self.said_of_audit)
 
     def test_a_next_recorder_that_cannot_begin(self):

@@ -21,7 +21,7 @@ from new_enemy_tools.importing.reading import Bad
 from new_enemy_tools.importing.service import Answer
 from new_enemy_tools.importing.times import nanoseconds
 from new_enemy_tools.recording.asking import FeedFault
-from new_enemy_tools.recording.core import FULL, SET, Core, Now
+from new_enemy_tools.recording.core import FOREVER, FULL, SET, Begun, Core, Now
 from new_enemy_tools.recording.http_reading import BODY, Head, Messages, Strange, path_of
 from new_enemy_tools.recording.keeper import Settings
 from new_enemy_tools.recording.log_files import LATER, InUse, Left, LogFault, LogFiles, Place
@@ -131,8 +131,8 @@ class Reading(Case):
 
     def test_which_path(self):
         self.assertEqual([path_of(one) for one in ("/stores/S/%63heck", "/stores/S/check#x", "/stores/S/check?a=/b", "http://host/stores/S/check",
-                                                   "/stores/%53/check", "/stores/S/./x/%2e./check", "/stores//S/check", "*")],
-                         ["/stores/S/check"] * 7 + ["/"])
+                                                   "/stores/%53/check", "/stores/S/./x/%2e./check", "/stores//S/check", "stores/S/check", "*")],
+                         ["/stores/S/check"] * 8 + ["/*"])
 
     def test_a_body_that_is_too_long_is_not_kept(self):
         data = b"POST / HTTP/1.1\r\nContent-Length: %d\r\n\r\n" % (BODY + 1) + b"x" * (BODY + 1) + b"GET / HTTP/1.1\r\n\r\n"
@@ -151,6 +151,8 @@ class Reading(Case):
         for path in ("check;x", "check%20", "%63heck", "CHECK", "check:x", "access/v1/evaluation", "reads"):
             self.assertEqual(openfga_call("POST", path_of("/stores/A/" + path.replace("%63", "%2563"))), UNKNOWN, path)
         self.assertEqual([openfga_call(method, "/stores/A/check") for method in ("GET", "post", "PUT", "OPTIONS", "HEAD")], [UNKNOWN] * 3 + [None] * 2)
+        self.assertEqual([openfga_call("POST", "/openfga.v1.OpenFGAService/Check"), spicedb_call("POST", "/authzed.api.v1.PermissionsService/CheckPermission")],
+                         [UNKNOWN] * 2)
         for path in ("", "/", "/read", "/Read", "/authorization-models", "/authorization-models/M", "/assertions/M", "/changes", "/expand"):
             self.assertEqual([openfga_call(method, path_of("/stores/A" + path)) for method in ("GET", "POST", "DELETE")], [None] * 3, path)
         self.assertEqual([spicedb_call("GET", path) for path in ("/v1/permissions/check", "/v1/schema/read", "/V1/experimental/permissions/x")],
@@ -342,8 +344,17 @@ class Order(Case):
         self.assertEqual((gap["from"], gap["to"]), ("1970-01-01T00:00:49.000000Z", "1970-01-01T00:02:31.000000Z"))
         self.assertEqual([core.earliest(3 * 10 ** 9), core.latest(3 * 10 ** 9)], [51 * 10 ** 9, 102 * 10 ** 9])
         core.is_first, core.left = False, Left(Place(None, 0, None), 0, 0, "1970-01-01T00:02:00Z", 0)
-        gap = json.loads(core._gap_before(0))
+        gap = json.loads(core._gap_before(0, FOREVER))
         self.assertEqual((gap.get("from"), gap["to"]), (None, "1970-01-01T00:02:00.000000Z"))
+
+    def test_what_a_second_proxy_passed_while_the_first_recorder_still_wrote(self):
+        """Its gap begins with the first that was lost, and not where the log before ends."""
+        core = Core(mock.Mock(), 30)
+        core.left, core.is_first = Left(Place(None, 0, None), 0, 0, "1970-01-01T00:00:20Z", 0), False
+        core.take(Lost(10 * 10 ** 9, 12 * 10 ** 9, 3, "why"), Now(21 * 10 ** 9, 10 ** 9))
+        core.begin_log(Begun([], False, Place(None, 0, None)))
+        gap = json.loads(next(iter(core.first)))
+        self.assertEqual((gap["from"], gap["to"], gap["lost"]), ("1970-01-01T00:00:10.000000Z", "1970-01-01T00:00:21.000000Z", 3))
 
     def test_a_clock_that_is_set_is_told(self):
         """Around that, by either time, something may be lost when the recorder is killed; a clock that is read a little late was not set."""
@@ -566,6 +577,18 @@ class Telling(Case):
             await asyncio.sleep(0)
             self.assertEqual(seen, [(b"request", packed(Started(1, 2, False, "check")))])
         asyncio.run(run())
+
+    def test_what_is_lost_is_told_before_what_was_lost_goes_on(self):
+        """A proxy that is killed then has said it."""
+        mine, its = socket.socketpair()
+        self.addCleanup(mine.close)
+        self.addCleanup(its.close)
+        teller = Teller(its)
+        teller.gathers = True
+        teller.lose("why")
+        teller.flush()
+        [found] = next(messages_from(mine))
+        self.assertEqual((found.amount, found.reason, teller.has_told()), (1, "why", True))
 
     def test_without_a_keeper(self):
         teller = Teller(None)

@@ -347,12 +347,24 @@ class Beginning(Case):
     def test_names_that_stand_twice(self):
         """Some readers take the first, and some the last."""
         for asked, answered, why in ((b'{"a":1,"a":2}', b"{}", "twice"), (b'{"tuple_key":1,"tupleKey":2}', b"{}", "both spellings"),
-                                     (b'{"a":[{"b":1,"b":1}]}', b"{}", "twice"), (b"{}", b'{"allowed":false,"allowed":true}', "twice")):
+                                     (b'{"a":[{"b":1,"b":1}]}', b"{}", "twice"), (b"{}", b'{"allowed":false,"allowed":true}', "twice"), (b"{}", b'{"allowed":false,"Allowed":true}', "other letters"),
+                                     (b"{}", '{"object\u017f":[]}'.encode(), "other letters")):
             message = Ended(1, "check", "", 0, 0, 0, None, None, None, 200, asked, answered, None)
             with self.assertRaisesRegex(Bad, why):
                 request_of(message)
                 body_of(message)
         self.assertEqual(body_of(message._replace(response=b'{"a_1":{},"a1":{}}')), {"a_1": {}, "a1": {}})
+
+    def test_what_is_not_needed_is_not_kept(self):
+        """Bodies of other calls, and what of a check is a gap anyway: many clients with long ones would take all memory."""
+        for path, size in ((b"/stores/A/read", 1 << 16), (b"/stores/A/check", 3 << 20)):
+            self.setUp()
+            self.asks(b"POST %s HTTP/1.1\r\nContent-Length: %d\r\n\r\n" % (path, size))
+            for _ in range(size >> 14):
+                self.asks(b"x" * (1 << 14))
+                self.assertLessEqual(len(self.reader.requests.body), 1 << 20 if path.endswith(b"check") else 0)
+            self.answers(b"HTTP/1.1 200 OK\r\nContent-Length: %d\r\n\r\n" % (1 << 16) + b"y" * 100)
+            self.assertEqual(len(self.reader.answers.body), 100 if path.endswith(b"check") else 0)
 
     def test_a_packed_answer_that_holds_much(self):
         data = gzip.compress(b"[" + b"1," * (20 << 20) + b"1]")

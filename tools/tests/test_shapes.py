@@ -14,6 +14,7 @@ from new_enemy_tools.importing.shapes import shape_of
 from new_enemy_tools.importing.spicedb import SpiceDbLog
 from tests.test_blocks import BlockCase
 from tests.test_core import RULES, check, content, rel, write
+from tests.test_going_on import between
 from tests.test_round_trips import (OpenFga, OpenFgaBetween, OpenFgaWithConditions, OpenFgaWithWildcards, SpiceDb, SpiceDbWithWildcards,
                                     time_text, token_text)
 from tests.test_spicedb import update, watch
@@ -95,8 +96,13 @@ class Shapes(BlockCase):
                                        content(3, None, newest=True)]), [1, 2, 4, 5])
         many = [{**check(1), "goal": rel(), "file": str(at)} for at in range(3)]
         self.assertEqual(read_in_full(many + many), [1, 2, 3, 4, 5, 6])
+        states = [between(one, 0, at % 9 + 1, at % 2 == 0) for at, one in enumerate(lines)]
+        self.assertEqual(read_in_full([*states, {**content(3, "v"), "snapshot_between": [3, 2]}]), [1, 2, 51])
         with mock.patch.object(block, "MOST", 1):
             self.assertEqual(read_in_full([check(1), check(1, token=1), check(2), check(1, token=1)]), [1, 2, 4])
+        with mock.patch.object(block, "TRIES", 3):
+            base = [write(0, *map(rel, str(at)), base=True) for at in range(5)]
+            self.assertEqual(read_in_full([*base, *lines]), [1, 2, 3, 4, 5, 6])
 
 
 class SameAnswers(BlockCase):
@@ -131,21 +137,42 @@ class SameAnswers(BlockCase):
             value = {**value, "time": TIMES[0] if random.random() < 0.98 else random.choice(TIMES)}
         return value
 
+    def events(self, random, odd):
+        log = [RULES]
+        for at in range(1, 60):
+            some = [rel(random.choice(IDS[:3] if random.random() < 0.9 else IDS[:9]), user=random.choice("abc")) for _ in range(5)]
+            log += [write(at, *some[:random.choice([1, 1, 2])][:1 + (some[0] != some[1])]), check(at, goal=some[2])]
+            asked = rel(random.choice(IDS) if random.random() < odd else "1")
+            log += [check(at, random.random() < 0.5, asked, token=random.randint(1, at)),
+                    content(at, "v%d" % at, goal=some[3], token=at), check(at, goal=some[3], version="v%d" % at, token=at)]
+            if random.random() < odd / 9:
+                log.append(check(at, goal=rel(relation="missing")))
+            if random.random() < odd / 9:
+                log.append(write(at, rel(user="z")))
+        return log
+
+    def test_events_between_two_states(self):
+        statuses = []
+        for number in range(LOGS):
+            random, share = Random("between %d" % number), number % 3 * 0.01
+            log = self.events(random, 0.4 * (share > 0))
+            for place, one in enumerate(log):
+                if one["event"] in ("check", "content") and random.random() < 0.8:
+                    at = one["snapshot"]
+                    log[place] = between(one, at - random.randint(0, 3), at, random.random() < 0.5)
+                    if random.random() < share:
+                        log[place].update(random.choice([
+                            {"snapshot_between": [at, at - 1]}, {"newest_between": [0, at], "snapshot_between": [0, at]},
+                            {"newest": True}, {"newest": None}, {"snapshot": at}, {"newest_between": [0, at, at]}, {"newest_between": None}]))
+            self.put_log(random, [self.dressed(random, one, number % 2) if one.get("event") == "check" else one for one in log], share)
+            statuses.append(self.compare("events", "--from-empty", "log"))
+        self.assertEqual(set(statuses), {2, 6})
+
     def test_events(self):
         statuses = []
         for number in range(LOGS):
-            random, log, share = Random("events %d" % number), [RULES], number % 3 * 0.01
-            odd = 0.4 * (share > 0)
-            for at in range(1, 60):
-                some = [rel(random.choice(IDS[:3] if random.random() < 0.9 else IDS[:9]), user=random.choice("abc")) for _ in range(5)]
-                log += [write(at, *some[:random.choice([1, 1, 2])][:1 + (some[0] != some[1])]), check(at, goal=some[2])]
-                asked = rel(random.choice(IDS) if random.random() < odd else "1")
-                log += [check(at, random.random() < 0.5, asked, token=random.randint(1, at)),
-                        content(at, "v%d" % at, goal=some[3], token=at), check(at, goal=some[3], version="v%d" % at, token=at)]
-                if random.random() < odd / 9:
-                    log.append(check(at, goal=rel(relation="missing")))
-                if random.random() < odd / 9:
-                    log.append(write(at, rel(user="z")))
+            random, share = Random("events %d" % number), number % 3 * 0.01
+            log = self.events(random, 0.4 * (share > 0))
             self.put_log(random, [self.dressed(random, one, number % 2) if one.get("event") == "check" else one for one in log], share)
             statuses.append(self.compare("events", "--from-empty", "log", *["--refuse-unmapped"] * (number % 4 == 3)))
         self.assertEqual(set(statuses), {0, 2, 6})

@@ -12,7 +12,7 @@ from unittest import mock
 from new_enemy_tools.importing import openfga_answers
 from new_enemy_tools.importing.events import Relationship
 from new_enemy_tools.importing.times import nanoseconds
-from new_enemy_tools.recording import bodies, core, http_reading, openfga_feed
+from new_enemy_tools.recording import bodies, core, http_reading, openfga_feed, relay
 from new_enemy_tools.recording.asking import FeedFault
 from new_enemy_tools.recording.core import Core, Now
 from new_enemy_tools.recording.lines import gap_line
@@ -150,7 +150,8 @@ class Finds(Case):
             self.assertIn("a right reply is called wrong", self.found(200, models=True, faults=0))
 
     def test_a_cache_that_is_not_told(self):
-        with mock.patch.object(OpenFga, "_stale", lambda self, clock: clock):
+        since = OpenFga._since
+        with mock.patch.object(OpenFga, "_since", lambda self, clock, stale: since(self, clock, 0)):
             self.assertIn("a right reply is called wrong", self.found(stale=10 * STEP, faults=0))
 
 
@@ -245,12 +246,8 @@ class OfTheWhole(Case):
             openfga_answers, "OBJECT", re.compile(r"([^:#\s]+):([^#\s]+)")))
 
     def test_clients_for_which_there_are_no_files(self):
-        kept = Relay.client
-
-        def client(relay):
-            relay.most = 1 << 30
-            return kept(relay)
-        self.assert_found("a client was refused, and no gap says so", mock.patch.object(Relay, "client", client))
+        """Where what the recorder may have open would let more of them come, and where it could open no more."""
+        self.assert_found("a client was refused, and no gap says so", mock.patch.object(relay, "errno", mock.Mock(EMFILE=0, ENFILE=0)))
 
     def test_messages_for_which_there_is_always_room(self):
         def put(teller, message):

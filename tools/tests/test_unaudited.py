@@ -339,18 +339,15 @@ class Told(Unaudited):
 class CutShort(Unaudited):
     """A trace that an import wrote is not taken for one that was written by hand where its last line, with the sum, is gone."""
 
-    def window(self, *words):
-        return self.run_tool("window", "audit", *words, "--program", os.path.abspath(os.environ["NEW_ENEMY"]), "--jobs", "1")
-
     def test_a_trace_that_goes_on(self):
         self.put("log", [RULES, write(1, rel()), check(1)])
         self.imported("events", "--from-empty", "--go-on", "left", "--trace", "first", "log")
-        self.assertEqual(self.window("first", "--out", "state").returncode, 0)
+        self.assertEqual(self.audit_window("first").returncode, 0)
         self.put("next", [check(1), write(2), check(2), check(2)])
         self.imported("events", "--go-on", "left", "--state", "state", "--trace", "second", "next")
-        self.assertEqual(self.window("second", "--state", "state").returncode, 0)
+        self.assertEqual(self.audit_window("second", is_last=True).returncode, 0)
         self.put("cut", "".join(line + "\n" for line in self.get("second").splitlines()[:-1]))
-        run = self.window("cut", "--state", "state")
+        run = self.audit_window("cut", is_last=True)
         self.assertEqual((run.returncode, run.stdout.splitlines()[-1]), (6, "verdict incomplete"))
         self.assertIn("not known what was left out: the trace does not say what its import left out; import the logs again\n", run.stdout)
 
@@ -358,7 +355,7 @@ class CutShort(Unaudited):
         self.put("log", [RULES, write(1, rel()), *[check(1)] * 6000])
         self.imported("events", "--from-empty", "log")
         self.assertGreater(os.path.getsize(self.path("trace.jsonl")), 2 * BLOCK)
-        self.assertEqual(self.window("trace.jsonl").returncode, 0)
+        self.assertEqual(self.audit_window("trace.jsonl").returncode, 0)
         self.put("cut", "".join(line + "\n" for line in self.get("trace.jsonl").splitlines()[:-1]))
-        run = self.window("cut")
+        run = self.audit_window("cut", is_first=True)
         self.assertEqual((run.returncode, run.stdout.splitlines()[-1]), (6, "verdict incomplete"))

@@ -1,31 +1,43 @@
 -- What is told of a log is told of what stands in for it.
-use Rattle.std.proofs.Common.{◌≡◌, ℕ, ◌+◌, ◌<◌, ◌≤◌, inl, inr, Bool, true, false, cond, leb, List, [], ◌∷◌, ◌++◌, length, map, get_or, take, drop, Option, Some, refl, sym, ◌∙◌, ap, subst, arith, append_assoc, append-nil, length-append}
+use Rattle.std.proofs.Common.{◌≡◌, ℕ, ◌+◌, ◌<◌, ◌≤◌, inl, inr, Bool, true, false, cond, leb, List, [], ◌∷◌, ◌++◌, length, map, get_or, take, drop, Option, Some, None, refl, sym, ◌∙◌, ap, subst, arith, append_assoc, append-nil, length-append}
 use Rattle.std.specs.Prelude.{All, filter, is_none, slice_get}
 use Rattle.std.specs.List.{AllByRecursion, list_any}
+use Rattle.std.specs.List.Sorted.{IsStrictlyIncreasing}
 use Rattle.std.proofs.Math.Seq.{take-append_seam}
 use Rattle.std.proofs.lemmas.Bool.{cases_lt, le-leb, leb-true, ne_eqb}
 use Rattle.std.proofs.lemmas.List.{map-append}
 use Rattle.std.proofs.lemmas.List.Elements.{filter-append, recursion_from_All}
 use Rattle.version_chains.specs.Commits.{Commit}
 use Rattle.marks.proofs.PlacedLemmas.{slice_get-front}
-use Rattle.trace_lines.specs.Values.{EntryValue, TraceValue}
+use Rattle.trace_lines.specs.Values.{EntryValue, TraceValue, entry_lines}
 use Rattle.evidence_check.specs.Evidences.{steps_of}
 use Rattle.evidence_check.specs.Steps.{StepValue}
 use Rattle.findings.specs.Findings.{found_on, on_line}
 use Rattle.findings.specs.declared.finding.Finding.{Finding}
+use Rattle.findings.specs.declared.finding.What.{What}
 use Rattle.windows.specs.Growth.{IsSettled, is_settled}
 use Rattle.windows.specs.Windows.{NamesTheSame}
 use Rattle.windows.proofs.CarriedLemmas.{names_carried}
 use Rattle.windows.proofs.GrownLemmas.{behind}
 use Rattle.follow_laws.specs.Begun.{Begins}
 use Rattle.follow_laws.specs.Told.{moments, at_moments, told_from, is_at, told_on, left_over}
-use Rattle.carry_laws.specs.Carried.{GoesOnAlike, HaveSameSteps, StandsIn, asked_from, asked_left, asked_on, placeless}
+use Rattle.carry_laws.specs.Carried.{GoesOnAlike, HaveSameSteps, StandsIn, asked_left, asked_on, placeless}
+use Rattle.carry_laws.specs.Asked.{asked, is_asked}
+use Rattle.carry_laws.proofs.AskLemmas.{all_above_asked, asked_by_entry}
 use Rattle.carry_laws.proofs.OnwardLemmas.{dropped, onward}
 use Rattle.follow_laws.proofs.OnceLemmas.{own_line}
 use Rattle.carry_laws.proofs.SilentLemmas.{IsLate, silent}
 use Rattle.carry_laws.proofs.StandInLemmas.{reached_there, told_there}
 
-in_middle : {X : Type 0} (xs ys : List X) (x : X) → slice_get (xs ++ x ∷ ys) (length xs) ≡ Some x
+-- what is told of the entries from number i on, of those that ask at or above a timestamp
+abbrev pub asked_from : ℕ → (Option ℕ → Bool) → TraceValue → List (Option (List StepValue)) → ℕ → List EntryValue
+    → List Finding
+asked_from b test t evidence i [] = []
+asked_from b test t evidence i (e ∷ es) =
+    cond (leb b e.snapshot) (on_line e.line (at_moments test (moments t e) (found_on t evidence i e))) []
+    ++ asked_from b test t evidence (i + 1) es
+
+pub in_middle : {X : Type 0} (xs ys : List X) (x : X) → slice_get (xs ++ x ∷ ys) (length xs) ≡ Some x
 in_middle [] ys x = refl
 in_middle (z ∷ xs) ys x = in_middle xs ys x
 
@@ -45,8 +57,8 @@ module _ {n : ℕ} (b p : ℕ) (t u x y : TraceValue) (goes : Begins n t u) (sho
   abbrev no_findings : List Finding
   no_findings = []
 
-  abbrev asked : EntryValue → List Finding → List Finding
-  asked e fs = cond (leb b e.snapshot) fs []
+  abbrev if_asked : EntryValue → List Finding → List Finding
+  if_asked e fs = cond (leb b e.snapshot) fs []
 
   module _ (us es ys ds : List EntryValue) (e d : EntryValue) (of_u : u.entries ≡ us ++ e ∷ es) (of_y : y.entries ≡ ys ++ d ∷ ds) (before :
       map placeless ys ≡ map placeless (filter z.keep us)) (copied : placeless d ≡ placeless e) where
@@ -130,7 +142,7 @@ module _ {n : ℕ} (b p : ℕ) (t u x y : TraceValue) (goes : Begins n t u) (sho
         by_settled old true is = by_silence old is
         by_settled old false is = by_window from (s.keeps.unsettled i e old is).1
 
-    pair : asked e (told_u i e) ≡ asked d (told_y j d)
+    pair : if_asked e (told_u i e) ≡ if_asked d (told_y j d)
     pair = by_test (leb b e.snapshot) refl
         ∙ ap (λ (q : ℕ). cond (leb b q) (told_y j d) []) (sym same_snapshot)
       where
@@ -178,7 +190,7 @@ module _ {n : ℕ} (b p : ℕ) (t u x y : TraceValue) (goes : Begins n t u) (sho
       by_keep rest false is ds of_y left =
           let old = dropped b p t u x y goes s within a (length us) e (ap (λ (xs : List EntryValue). slice_get xs (length us))
           of_u ∙ in_middle us es e) is in
-          ap (λ (fs : List Finding). fs ++ asked_from b test u evidence (length us + 1) es) (ap (asked e) (silent t u goes test
+          ap (λ (fs : List Finding). fs ++ asked_from b test u evidence (length us + 1) es) (ap (if_asked e) (silent t u goes test
           late (length us) e old.0 old.1 evidence) ∙ none_asked (leb b e.snapshot))
           ∙ ap (λ (m : ℕ). asked_from b test u evidence m es) (sym (counted us e))
           ∙ rest ys ds further of_y (sym (next_kept false is ∙ append-nil (map placeless ys))) left
@@ -188,8 +200,8 @@ module _ {n : ℕ} (b p : ℕ) (t u x y : TraceValue) (goes : Begins n t u) (sho
           let others : map placeless ds ≡ map placeless (filter z.keep es) = ap (drop 1) left in
           ap (λ (fs : List Finding). fs ++ asked_from b test u evidence (length us + 1) es) (pair us es ys ds e d of_u of_y before
           copied)
-          ∙ ap (λ (m : ℕ). asked d (told_y (length ys) d) ++ asked_from b test u evidence m es) (sym (counted us e))
-          ∙ ap (λ (fs : List Finding). asked d (told_y (length ys) d) ++ fs) (rest (ys ++ d ∷ []) ds further (of_y ∙ sym (append_assoc ys
+          ∙ ap (λ (m : ℕ). if_asked d (told_y (length ys) d) ++ asked_from b test u evidence m es) (sym (counted us e))
+          ∙ ap (λ (fs : List Finding). if_asked d (told_y (length ys) d) ++ fs) (rest (ys ++ d ∷ []) ds further (of_y ∙ sym (append_assoc ys
           (d ∷ []) ds)) (map-append placeless ys (d ∷ []) ∙ ap (λ (f : EntryValue). map placeless ys ++ f ∷ []) copied ∙ sym
           (next_kept true is)) others
           ∙ ap (λ (m : ℕ). asked_from b test y own m ds) (counted ys d))
@@ -197,34 +209,65 @@ module _ {n : ℕ} (b p : ℕ) (t u x y : TraceValue) (goes : Begins n t u) (sho
   pub told_same : asked_from b test u evidence 0 u.entries ≡ asked_from b test y own 0 y.entries
   told_same = told_rest [] u.entries [] y.entries refl refl refl z.entries
 
+-- ---- those on lines that are asked
+
+all_on_line : (test : ℕ → Bool) (line : ℕ) → (b : Bool) → test line ≡ b → (found : List (Option What))
+    → filter (λ (f : Finding). test f.line) (on_line line found) ≡ cond b (on_line line found) []
+all_on_line test line true is [] = refl
+all_on_line test line false is [] = refl
+all_on_line test line b is (None ∷ found) = all_on_line test line b is found
+all_on_line test line true is (Some what ∷ found) =
+    ap (λ (c : Bool). cond c (record { line = line; what = what } ∷ filter (λ (f : Finding). test f.line) (on_line line found))
+    (filter (λ (f : Finding). test f.line) (on_line line found))) is
+    ∙ ap (λ (fs : List Finding). record { line = line; what = what } ∷ fs) (all_on_line test line true is found)
+all_on_line test line false is (Some what ∷ found) =
+    ap (λ (c : Bool). cond c (record { line = line; what = what } ∷ filter (λ (f : Finding). test f.line) (on_line line found))
+    (filter (λ (f : Finding). test f.line) (on_line line found))) is
+    ∙ all_on_line test line false is found
+
+module _ (b : ℕ) (test : Option ℕ → Bool) (t : TraceValue) (rising : IsStrictlyIncreasing (entry_lines t.entries)) (evidence :
+    List (Option (List StepValue))) where
+  asked_rest : (us es : List EntryValue) → t.entries ≡ us ++ es
+      → asked_from b test t evidence (length us) es ≡ asked b t (told_from test t evidence (length us) es)
+  asked_rest us [] is = refl
+  asked_rest us (e ∷ es) is =
+      let here = on_line e.line (at_moments test (moments t e) (found_on t evidence (length us) e)) in
+      let there = told_from test t evidence (length us + 1) es in
+      let place : slice_get t.entries (length us) ≡ Some e = ap (λ (xs : List EntryValue). slice_get xs (length us)) is
+      ∙ in_middle us es e in
+      let next : length (us ++ e ∷ []) ≡ length us + 1 = length-append us (e ∷ []) in
+      ap (λ (fs : List Finding). fs ++ asked_from b test t evidence (length us + 1) es)
+      (sym (all_on_line (is_asked b t) e.line (leb b e.snapshot) (asked_by_entry b t rising (length us) e place)
+      (at_moments test (moments t e) (found_on t evidence (length us) e))))
+      ∙ ap (λ (fs : List Finding). asked b t here ++ fs)
+      (ap (λ (m : ℕ). asked_from b test t evidence m es) (sym next)
+      ∙ asked_rest (us ++ e ∷ []) es (is ∙ sym (append_assoc us (e ∷ []) es))
+      ∙ ap (λ (m : ℕ). asked b t (told_from test t evidence m es)) next)
+      ∙ sym (filter-append (λ (f : Finding). is_asked b t f.line) here there)
+
+  pub asked_alone : asked_from b test t evidence 0 t.entries ≡ asked b t (told_from test t evidence 0 t.entries)
+  asked_alone = asked_rest [] t.entries refl
+
 pub told_alike_law : (n b p : ℕ) (t u x y : TraceValue) → (goes : Begins n t u) → Begins n x y → StandsIn b p t x → p ≤ n + 1
     → GoesOnAlike goes.goes x y → (evidence own : List (Option (List StepValue))) → HaveSameSteps u evidence y own
     → ((k : ℕ) → n < k → asked_on b u evidence k ≡ asked_on b y own k)
     × (asked_left b u evidence ≡ asked_left b y own)
 told_alike_law n b p t u x y goes shorter s within a evidence own same = (
-  λ k lt. told_same b p t u x y goes shorter s within a evidence own same (is_at k) (λ m le. ne_eqb m k (λ is. omega (
-    arith,
-    le,
-    lt,
-    is,
-  ))),
-  told_same b p t u x y goes shorter s within a evidence own same is_none (λ m le. refl),
+  λ k lt. by_test (is_at k) (λ m le. ne_eqb m k (λ is. omega (arith, le, lt, is))),
+  by_test is_none (λ m le. refl),
 )
+  where
+    by_test : (test : Option ℕ → Bool) → IsLate n test
+        → asked b u (told_from test u evidence 0 u.entries) ≡ asked b y (told_from test y own 0 y.entries)
+    by_test test late =
+        sym (asked_alone b test u goes.whole.rising.entries evidence)
+        ∙ told_same b p t u x y goes shorter s within a evidence own same test late
+        ∙ asked_alone b test y shorter.whole.rising.entries own
 
 -- ---- where all ask at or above the base
-
-all_told : (b : ℕ) (test : Option ℕ → Bool) (t : TraceValue) (evidence : List (Option (List StepValue))) (i : ℕ)
-    (es : List EntryValue) → AllByRecursion (λ (e : EntryValue). b ≤ e.snapshot) es
-    → asked_from b test t evidence i es ≡ told_from test t evidence i es
-all_told b test t evidence i [] h = refl
-all_told b test t evidence i (e ∷ es) h =
-    let here = on_line e.line (at_moments test (moments t e) (found_on t evidence i e)) in
-    ap (λ (q : Bool). cond q here [] ++ asked_from b test t evidence (i + 1) es) (le-leb b e.snapshot h.0)
-    ∙ ap (λ (fs : List Finding). here ++ fs) (all_told b test t evidence (i + 1) es h.1)
 
 pub all_told_law : (b : ℕ) (t : TraceValue) → All (λ e. b ≤ e.snapshot) t.entries
     → (evidence : List (Option (List StepValue)))
     → ((k : ℕ) → asked_on b t evidence k ≡ told_on t evidence k) × (asked_left b t evidence ≡ left_over t evidence)
 all_told_law b t all evidence =
-    let each = recursion_from_All (λ (e : EntryValue). b ≤ e.snapshot) t.entries all in
-    (λ k. all_told b (is_at k) t evidence 0 t.entries each, all_told b is_none t evidence 0 t.entries each)
+    (λ k. all_above_asked b t all (told_on t evidence k), all_above_asked b t all (left_over t evidence))

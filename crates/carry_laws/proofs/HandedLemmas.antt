@@ -1,9 +1,9 @@
 -- What stands in for a trace that stands in for a log stands in for the log.
-use Rattle.std.proofs.Common.{◌≡◌, ℕ, zero, suc, ◌+◌, ◌<◌, ◌≤◌, ◌||◌, ◌&&◌, inl, inr, Bool, true, false, cond, eqb, ltb, leb, List, [], ◌∷◌, ◌++◌, map, Option, Some, None, refl, sym, ◌∙◌, ap, subst, arith}
+use Rattle.std.proofs.Common.{◌≡◌, ℕ, zero, suc, ◌+◌, ◌<◌, ◌≤◌, ◌||◌, ◌&&◌, max, inl, inr, Bool, true, false, cond, eqb, ltb, leb, List, [], ◌∷◌, ◌++◌, map, Option, Some, None, refl, sym, ◌∙◌, ap, subst, arith}
 use Rattle.std.specs.Prelude.{All, filter, slice_get, option_map}
 use Rattle.std.specs.List.{AllByRecursion, list_any}
 use Rattle.std.proofs.lemmas.Bool.{cases_lt, eqb-true, le-leb, le-ltb, lt-ltb, leb-true}
-use Rattle.std.proofs.lemmas.List.Elements.{All-from_recursion, filter-append, recursion_from_All}
+use Rattle.std.proofs.lemmas.List.Elements.{All-from_recursion, All-weaker, filter-append, recursion_from_All}
 use Rattle.std.proofs.lemmas.List.Folds.{list_any-append}
 use Rattle.std.proofs.lemmas.Option.{slice_get-map}
 use Rattle.version_chains.specs.Commits.{Commit}
@@ -74,7 +74,7 @@ behind_some P [] ys h = h
 behind_some P (x ∷ xs) ys h = behind_some P xs ys h.1
 
 -- what passes stands among what is left
-among_kept : (keep : EntryValue → Bool) (xs : List EntryValue) (i : ℕ) (e : EntryValue) → slice_get xs i ≡ Some e
+pub among_kept : (keep : EntryValue → Bool) (xs : List EntryValue) (i : ℕ) (e : EntryValue) → slice_get xs i ≡ Some e
     → keep e ≡ true → (j : ℕ) × (slice_get (filter keep xs) j ≡ Some e)
 among_kept keep [] i e at kept = absurd (let no : None ≡ Some e = at in cc)
 among_kept keep (x ∷ xs) zero e at kept =
@@ -107,10 +107,36 @@ reaches_base q b (x ∷ xs) h any = by_test (reaches_base q b xs h.1) (leb q x.a
     by_test rest true is any = let high = leb-true q x.at is in let le = h.0 in omega (arith, high, le)
     by_test rest false is any = rest any
 
+-- what is reached by what stands in for a log is reached in the log
+pub reached_back : (b p : ℕ) (u y : TraceValue) → StandsIn b p u y → (m : ℕ)
+    → list_any (λ (d : Commit). leb m d.at) y.commits ≡ true → list_any (λ (d : Commit). leb m d.at) u.commits ≡ true
+reached_back b p u y s m any =
+    by_front (list_any reaches s.front) refl (sym (ap (list_any reaches) s.commits ∙ list_any-append reaches
+    s.front (above b u.commits)) ∙ any)
+  where
+    reaches : Commit → Bool
+    reaches d = leb m d.at
+
+    by_front : (z : Bool) → list_any reaches s.front ≡ z
+        → (list_any reaches s.front || list_any reaches (above b u.commits)) ≡ true → list_any reaches u.commits ≡ true
+    by_front true is any =
+        let le = reaches_base m b s.front (recursion_from_All (IsUpTo b) s.front s.stands.none_above) is in
+        any_weaker (λ (d : Commit). eqb d.at b) reaches (λ d same. le-leb m d.at (let e = eqb-true d.at b same in omega (
+          arith,
+          e,
+          le,
+        ))) u.commits s.base
+    by_front false is any = any_filtered (λ (d : Commit). ltb b d.at) reaches u.commits (sym (ap (λ (z : Bool). z || list_any
+        reaches (above b u.commits)) is) ∙ any)
+
 -- ---- two in turn
 
 module _ (b p c q : ℕ) (u y x : TraceValue) (of_u : HasRisingLines u) (of_y : HasRisingLines y) (s : StandsIn b p u y) (r : StandsIn c
-    q y x) (later : b ≤ c) (behind : p ≤ q) where
+    q y x) (later : b ≤ c) where
+  -- the line from which on both stand in
+  abbrev last : ℕ
+  last = max p q
+
   abbrev keep : EntryValue → Bool
   keep e = s.keep e && r.keep e
 
@@ -186,12 +212,16 @@ module _ (b p c q : ℕ) (u y x : TraceValue) (of_u : HasRisingLines u) (of_y : 
   lines_there P all = unfiltered (λ (d : CommitLine). ltb b d.at) P (commit_lines_of u) (behind_some P first rest
       (recursion_from_All P (first ++ rest) (subst (All P) (lines_are b p u y s) all)))
 
-  folded : All (λ (d : CommitLine). d.at ≤ c → d.line < q) (commit_lines_of u)
-  folded = All-from_recursion Folded (commit_lines_of u) (each (commit_lines_of u) (lines_there Folded r.folded) (recursion_from_All
+  folded : All (λ (d : CommitLine). d.at ≤ c → d.line < last) (commit_lines_of u)
+  folded = All-from_recursion Folded (commit_lines_of u) (each (commit_lines_of u) (lines_there Folded r_folded) (recursion_from_All
       (λ (d : CommitLine). d.at ≤ b → d.line < p) (commit_lines_of u) s.folded))
     where
       Folded : CommitLine → Type 0
-      Folded d = d.at ≤ c → d.line < q
+      Folded d = d.at ≤ c → d.line < last
+
+      r_folded : All Folded (commit_lines_of y)
+      r_folded = All-weaker (λ (d : CommitLine). d.at ≤ c → d.line < q) Folded (λ d f le. let lt = f le in omega (arith, lt))
+          (commit_lines_of y) r.folded
 
       each : (ds : List CommitLine) → AllByRecursion (λ (d : CommitLine). ltb b d.at ≡ true → Folded d) ds
           → AllByRecursion (λ (d : CommitLine). d.at ≤ b → d.line < p) ds → AllByRecursion Folded ds
@@ -199,44 +229,35 @@ module _ (b p c q : ℕ) (u y x : TraceValue) (of_u : HasRisingLines u) (of_y : 
       each (d ∷ ds) new old = (
         λ le. elim (cases_lt b d.at) [
           | inl lt ↦ new.0 (lt-ltb b d.at lt) le
-          | inr low ↦ let before = old.0 low in omega (arith, before, behind)
+          | inr low ↦ let before = old.0 low in omega (arith, before)
         ],
         each ds new.1 old.1,
       )
 
-  behind_base : All (λ (d : CommitLine). c < d.at → q ≤ d.line) (commit_lines_of u)
-  behind_base = All-from_recursion Behind (commit_lines_of u) (weaker (λ (d : CommitLine). ltb b d.at ≡ true → Behind d) Behind
-      (λ d f lt. f (lt-ltb b d.at (omega (arith, lt, later))) lt) (commit_lines_of u) (lines_there Behind r.behind))
+  behind_base : All (λ (d : CommitLine). c < d.at → last ≤ d.line) (commit_lines_of u)
+  behind_base = All-from_recursion (λ (d : CommitLine). c < d.at → last ≤ d.line) (commit_lines_of u) (each (commit_lines_of u)
+      (lines_there Behind r.behind) (recursion_from_All (λ (d : CommitLine). b < d.at → p ≤ d.line) (commit_lines_of u) s.behind))
     where
       Behind : CommitLine → Type 0
       Behind d = c < d.at → q ≤ d.line
 
-  -- what is reached there is reached in the log
-  reached_back : (m : ℕ) → list_any (λ (d : Commit). leb m d.at) y.commits ≡ true
-      → list_any (λ (d : Commit). leb m d.at) u.commits ≡ true
-  reached_back m any = by_front (list_any reaches s.front) refl (sym (ap (list_any reaches) s.commits ∙ list_any-append reaches
-      s.front (above b u.commits)) ∙ any)
-    where
-      reaches : Commit → Bool
-      reaches d = leb m d.at
+      each : (ds : List CommitLine) → AllByRecursion (λ (d : CommitLine). ltb b d.at ≡ true → Behind d) ds
+          → AllByRecursion (λ (d : CommitLine). b < d.at → p ≤ d.line) ds
+          → AllByRecursion (λ (d : CommitLine). c < d.at → last ≤ d.line) ds
+      each [] new old = tt
+      each (d ∷ ds) new old = (
+        λ lt.
+            let second = new.0 (lt-ltb b d.at (omega (arith, lt, later))) lt in
+            let first = old.0 (omega (arith, lt, later)) in
+            omega (arith, first, second),
+        each ds new.1 old.1,
+      )
 
-      by_front : (z : Bool) → list_any reaches s.front ≡ z
-          → (list_any reaches s.front || list_any reaches (above b u.commits)) ≡ true → list_any reaches u.commits ≡ true
-      by_front true is any =
-          let le = reaches_base m b s.front in_first is in
-          any_weaker (λ (d : Commit). eqb d.at b) reaches (λ d same. le-leb m d.at (let e = eqb-true d.at b same in omega (
-            arith,
-            e,
-            le,
-          ))) u.commits s.base
-      by_front false is any = any_filtered (λ (d : Commit). ltb b d.at) reaches u.commits (sym (ap (λ (z : Bool). z || list_any
-          reaches (above b u.commits)) is) ∙ any)
-
-  unsettled_kept : (i : ℕ) (e : EntryValue) → slice_get u.entries i ≡ Some e → is_settled u e ≡ false → (keep e ≡ true) × (q ≤ e.line)
+  unsettled_kept : (i : ℕ) (e : EntryValue) → slice_get u.entries i ≡ Some e → is_settled u e ≡ false → (keep e ≡ true) × (last ≤ e.line)
   unsettled_kept i e at unset =
       let kept = s.keeps.unsettled i e at unset in
       let among = among_kept s.keep u.entries i e at kept.0 in
-      by_entry kept.0 among.0 (slice_get y.entries among.0) refl (
+      by_entry kept among.0 (slice_get y.entries among.0) refl (
       sym (slice_get-map placeless y.entries among.0)
       ∙ ap (λ (es : List EntryValue). slice_get es among.0) s.entries
       ∙ slice_get-map placeless (filter s.keep u.entries) among.0
@@ -246,24 +267,25 @@ module _ (b p c q : ℕ) (u y x : TraceValue) (of_u : HasRisingLines u) (of_y : 
       unsettled : (d : EntryValue) → placeless d ≡ placeless e → (z : Bool) → is_settled y d ≡ z → is_settled y d ≡ false
       unsettled d same false is = is
       unsettled d same true is =
-          let yes : is_settled u e ≡ true = reached_back e.snapshot (ap (λ (f : EntryValue). list_any (λ (k : Commit). leb
+          let yes : is_settled u e ≡ true = reached_back b p u y s e.snapshot (ap (λ (f : EntryValue). list_any (λ (k : Commit). leb
           f.snapshot k.at) y.commits) (sym same) ∙ is) in
           let wrong : false ≡ true = sym unset ∙ yes in absurd cc
 
-      by_entry : s.keep e ≡ true → (j : ℕ) → (o : Option EntryValue) → slice_get y.entries j ≡ o
-          → option_map placeless o ≡ Some (placeless e) → (keep e ≡ true) × (q ≤ e.line)
+      by_entry : (s.keep e ≡ true) × (p ≤ e.line) → (j : ℕ) → (o : Option EntryValue) → slice_get y.entries j ≡ o
+          → option_map placeless o ≡ Some (placeless e) → (keep e ≡ true) × (last ≤ e.line)
       by_entry kept j None there same = absurd (let wrong : None ≡ Some (placeless e) = same in cc)
       by_entry kept j (Some d) there same =
           let copied : placeless d ≡ placeless e = cc in
           let there_kept = r.keeps.unsettled j d there (unsettled d copied (is_settled y d) refl) in
           let line = ap (λ (f : EntryValue). f.line) copied in
+          let behind_p = kept.1 in
           let behind_q = there_kept.1 in (
-            ap (λ (z : Bool). z && r.keep e) kept
+            ap (λ (z : Bool). z && r.keep e) kept.0
                 ∙ sym (r.keeps.by_face e) ∙ ap r.keep (sym copied) ∙ r.keeps.by_face d ∙ there_kept.0,
-            omega (arith, line, behind_q),
+            omega (arith, line, behind_p, behind_q),
           )
 
-  handed : StandsIn c q u x
+  handed : StandsIn c last u x
   handed = record {
     front = r.front;
     front_lines = r.front_lines;
@@ -276,7 +298,7 @@ module _ (b p c q : ℕ) (u y x : TraceValue) (of_u : HasRisingLines u) (of_y : 
     base = base;
     base_there = r.base_there;
     counted = r.counted;
-    in_front = r.in_front;
+    in_front = All-weaker (λ (l : ℕ). l < q) (λ (l : ℕ). l < last) (λ l lt. omega (arith, lt)) r.front_lines r.in_front;
     folded = folded;
     behind = behind_base;
     keeps = record {
@@ -288,5 +310,5 @@ module _ (b p c q : ℕ) (u y x : TraceValue) (of_u : HasRisingLines u) (of_y : 
   }
 
 pub handed_on_law : (b p c q : ℕ) (u y x : TraceValue) → HasRisingLines u → HasRisingLines y → StandsIn b p u y
-    → StandsIn c q y x → b ≤ c → p ≤ q → StandsIn c q u x
-handed_on_law b p c q u y x of_u of_y s r later behind = handed b p c q u y x of_u of_y s r later behind
+    → StandsIn c q y x → b ≤ c → StandsIn c (max p q) u x
+handed_on_law b p c q u y x of_u of_y s r later = handed b p c q u y x of_u of_y s r later

@@ -1,6 +1,10 @@
 pub mod AlikeLemmas
+pub mod AskLemmas
 pub mod HandedLemmas
 pub mod OnwardLemmas
+pub mod PartLemmas
 pub mod ReachLemmas
 pub mod SilentLemmas
 pub mod StandInLemmas
+pub mod StepLemmas
+pub mod TogetherLemmas

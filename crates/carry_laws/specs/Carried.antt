@@ -7,9 +7,9 @@ use Rattle.trace_lines.specs.Versions.{Version, issues}
 use Rattle.token_order.specs.Order.{commit_lines_of}
 use Rattle.evidence_check.specs.Evidences.{steps_of}
 use Rattle.evidence_check.specs.Steps.{StepValue}
-use Rattle.findings.specs.Findings.{found_on, on_line}
 use Rattle.findings.specs.declared.finding.Finding.{Finding}
-use Rattle.follow_laws.specs.Told.{at_moments, is_at, moments}
+use Rattle.follow_laws.specs.Told.{left_over, told_on}
+use Rattle.carry_laws.specs.Asked.{asked}
 use Rattle.windows.specs.Compaction.{StandsFor, above}
 use Rattle.windows.specs.Growth.{GoesOn, is_settled}
 use Rattle.windows.specs.Windows.{face}
@@ -70,16 +70,9 @@ HaveSameSteps u evidence y own =
 
 -- ---- what is told of entries that ask at or above a timestamp: of others a run does not know the store
 
-abbrev pub asked_from : ℕ → (Option ℕ → Bool) → TraceValue → List (Option (List StepValue)) → ℕ → List EntryValue
-    → List Finding
-asked_from b test t evidence i [] = []
-asked_from b test t evidence i (e ∷ es) =
-    (if nat_le b e.snapshot then on_line e.line (at_moments test (moments t e) (found_on t evidence i e)) else [])
-    ++ asked_from b test t evidence (i + 1) es
-
 -- when line k is taken, and at the end of the log
 abbrev pub asked_on : ℕ → TraceValue → List (Option (List StepValue)) → ℕ → List Finding
-asked_on b t evidence k = asked_from b (is_at k) t evidence 0 t.entries
+asked_on b t evidence k = asked b t (told_on t evidence k)
 
 abbrev pub asked_left : ℕ → TraceValue → List (Option (List StepValue)) → List Finding
-asked_left b t evidence = asked_from b is_none t evidence 0 t.entries
+asked_left b t evidence = asked b t (left_over t evidence)

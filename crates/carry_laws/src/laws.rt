@@ -1,12 +1,15 @@
 //! What stands in for a log. Each function computes nothing: what it ensures is the law.
 
-ghost use Rattle.std.specs.Prelude.{◌≡◌, ◌≤◌, ◌<◌, ◌+◌, ℕ, List, Option, All};
-ghost use Rattle.trace_lines.specs.Values.{TraceValue};
+ghost use Rattle.std.specs.Prelude.{◌≡◌, ◌≤◌, ◌<◌, ◌+◌, ◌++◌, ℕ, max, List, Option, Some, All, IsPermutation, slice_get};
+ghost use Rattle.trace_lines.specs.Values.{EntryValue, TraceValue, empty_trace};
+ghost use Rattle.evidence_check.specs.Evidences.{steps_of};
 ghost use Rattle.evidence_check.specs.Steps.{StepValue};
-ghost use Rattle.windows.specs.Growth.{HasRisingLines};
-ghost use Rattle.follow_laws.specs.Begun.{Begins};
+ghost use Rattle.findings.specs.Findings.{findings_of};
+ghost use Rattle.windows.specs.Growth.{HasRisingLines, IsSettled};
+ghost use Rattle.follow_laws.specs.Begun.{Begins, IsOfBytes};
 ghost use Rattle.follow_laws.specs.Told.{told_on, left_over};
-ghost use Rattle.carry_laws.specs.Carried.{GoesOnAlike, HaveSameSteps, StandsIn, asked_left, asked_on};
+ghost use Rattle.carry_laws.specs.Carried.{GoesOnAlike, HaveSameSteps, StandsIn, asked_left, asked_on, placeless};
+ghost use Rattle.carry_laws.specs.Together.{AreParts, HadSteps, Part, on_audited, told_in_all};
 
 /// What stands in for a log so far stands in for the longer log, when the same lines have come behind both.
 pub fn stands_on()
@@ -35,5 +38,15 @@ pub fn all_is_told()
 /// with.
 pub fn handed_on()
     ensures { (b p c q : ℕ) (u y x : TraceValue) → HasRisingLines u → HasRisingLines y → StandsIn b p u y
-        → StandsIn c q y x → b ≤ c → p ≤ q → StandsIn c q u x }
+        → StandsIn c q y x → b ≤ c → StandsIn c (max p q) u x }
+{}
+
+/// What the runs of a log tell, each at its lines, and what is left at the log's end, is what is found in the whole log on
+/// the entries that were audited, each finding once: by steps that one of the runs had, for each entry that is settled.
+pub fn together()
+    ensures { (u : TraceValue) → IsOfBytes u → (rs : List Part) → AreParts u 0 empty_trace rs
+        → (evidence : List (Option (List StepValue)))
+        × IsPermutation (told_in_all 0 rs ++ left_over u evidence) (on_audited rs u (findings_of u evidence))
+        × ((i : ℕ) (e : EntryValue) → slice_get u.entries i ≡ Some e → IsSettled u e
+        → HadSteps rs (placeless e) (steps_of evidence i)) }
 {}

@@ -21,7 +21,7 @@ use Rattle.monitor.proofs.RunLemmas.{none_between, to_last}
 use Rattle.audit.specs.Made.{IsMade}
 use Rattle.follow.specs.Heartbeats.{AreSettledTo, IsThrough}
 use Rattle.follow.specs.SoFar.{IsFollowed, TellsFromSame}
-use Rattle.follow.specs.Told.{asked, is_asked}
+use Rattle.carry_laws.specs.Asked.{asked, is_asked}
 use Rattle.follow.specs.declared.follower.Follower.{Follower}
 
 -- an entry more is settled

@@ -23,10 +23,12 @@ use Rattle.findings.specs.declared.finding.Finding.{Finding}
 use Rattle.audit.specs.Made.{IsMade}
 use Rattle.follow.specs.Reading.{IsKeptSoFar, IsSaidBehind}
 use Rattle.follow.specs.SoFar.{IsFollowed}
-use Rattle.follow.specs.Told.{IsToldFrom, asked}
+use Rattle.carry_laws.specs.Asked.{asked}
+use Rattle.follow.specs.Told.{IsToldFrom}
 use Rattle.audit.specs.Audit.{Says}
 use Rattle.follow.specs.declared.follower.Follower.{Follower}
-use Rattle.follow.proofs.AskLemmas.{asked_longer, told_within}
+use Rattle.carry_laws.proofs.AskLemmas.{asked_longer}
+use Rattle.follow.proofs.AskLemmas.{told_within}
 use Rattle.follow.proofs.MadeLemmas.{made_still}
 
 -- ---- lines that were read
@@ -37,6 +39,7 @@ pub first_lines : {R : Type 0} (given : R → List ℕ) (ends failures : R → �
 first_lines given ends failures remaining first k r none number room = (
   record {
     used = [];
+    none = λ _. refl;
     whole = λ later. absurd (omega (arith, later, number));
     gave = sym (ap (λ (l : List ℕ). (given first ++ []) ++ l) none ∙ append-nil (given first ++ []) ∙ append-nil (given first));
     fits = omega (arith, room);

@@ -10,7 +10,7 @@ use Rattle.devices.specs.Given.{AreNext}
 use Rattle.devices.proofs.Given.{behind-trans, of_whole-map}
 use Rattle.userset_index.specs.Growth.{IsGrowing}
 use Rattle.userset_index.specs.Index.{IndexValue}
-use Rattle.json_lines.specs.Reading.{parts, read_all}
+use Rattle.json_lines.specs.Reading.{line_count, parts, read_all}
 use Rattle.json_lines.specs.declared.lines.TheConstants.{CHUNK}
 use Rattle.json_lines.specs.declared.next.LineReader.{LineReader}
 use Rattle.trace_lines.specs.Placed.{AreInPlace}
@@ -361,16 +361,19 @@ module _ (says : Says) (s : KeptValue) (means : IsSaidBehind s says)
   }
 
   -- at the end of the lines
-  pub lines_told : (k : KeptValue) (v : IndexValue) (n : ℕ) → k.log ≡ t → IsGrowing k.log.declarations k.log.commits v
+  pub lines_told : (k : KeptValue) (v : IndexValue) (n : ℕ) → n ≡ line_count used → k.log ≡ t → IsGrowing k.log.declarations k.log.commits v
       → (now : List ℕ) → now ≡ taken ++ text → TellsLines says g used start now (k, v, n)
   unfolding text_told
-  lines_told k v n is growing now went = record {
+  lines_told k v n counted is growing now went = record {
     said = said ∙ ap (λ (x : TraceValue). Ok x) (sym is);
+    counted = counted;
     pieces = pieces;
     went = (text_told now went).went;
     same = told_now;
     followed = subst (λ (x : TraceValue). IsFollowed x g) (sym is) tells.followed;
     all = subst (λ (x : TraceValue). IsAtEnd x g.monitor) (sym is) tells.all;
+    placed = subst AreInPlace (sym is) tells.placed;
+    good = subst IsOfBytes (sym is) tells.good;
     silent = silent_now;
     through = subst (λ (x : TraceValue). AreThrough x pieces) (sym is) (through_now t (inl said));
     longer = through_now;
@@ -595,19 +598,19 @@ module _ (trace : Reading) (one two three : Writer) (kept : WriterNeverFailed (r
       (λ others. never_failed one two three kept (told.unfailed others))
 
   -- all lines were taken and told
-  pub lines_followed : (used : List ℕ) (v : IndexValue) (n : ℕ) (l : KeptValue) → IsFine trace → says true used ≡ Ok k.log
+  pub lines_followed : (used : List ℕ) (v : IndexValue) (n : ℕ) (l : KeptValue) → n ≡ line_count used → IsFine trace → says true used ≡ Ok k.log
       → OfWhole trace (λ a. a ≡ used) → IsRunSoFar says first base used one.taken two.taken f
       → Told (λ text (l : KeptValue). (l ≡ k) × TellsPiece k.log None f g text) (record { before = two; after = three }) (Ok l)
       → IsGrowing k.log.declarations k.log.commits v
       → Run says (TellsLines says g) (WentOut says (IsToldFrom says first base) (λ a p e v. ⊥)) trace
       (record { before = one; after = three }) (Ok (l, v, n))
-  lines_followed used v n l fine said whole run told growing =
+  lines_followed used v n l counted fine said whole run told growing =
       let same : l ≡ k = told.text.1.0 in record {
         follows = of_whole-map (λ (r : Reader). r.given) (λ (r : Reader). r.ends) trace.before trace.after (λ a. a ≡ used)
             (λ a. TellsLines says g a one.taken three.taken (l, v, n)) (λ a is.
             subst (λ (x : List ℕ). TellsLines says g x one.taken three.taken (l, v, n)) (sym is)
             (lines_told says s means fits first base low used one.taken two.taken f g run k.log said told.text.0 None
-            (no_lines s.lines used) told.text.1.1 l v n (ap (λ (x : KeptValue). x.log) same)
+            (no_lines s.lines used) told.text.1.1 l v n counted (ap (λ (x : KeptValue). x.log) same)
             (subst (λ (x : KeptValue). IsGrowing x.log.declarations x.log.commits v) (sym same) growing)
             three.taken told.text.2)) whole;
         stands = tt;

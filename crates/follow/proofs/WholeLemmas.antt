@@ -14,8 +14,8 @@ use Rattle.findings.specs.Headline.{IsRightAndFresh, IsTraceRightAndFresh}
 use Rattle.findings.specs.Report.{last_lines, line_text}
 use Rattle.findings.specs.declared.finding.Finding.{Finding}
 use Rattle.findings.proofs.EachEntryLemmas.{headline_by_bytes}
-use Rattle.follow_laws.specs.Told.{all_told}
-use Rattle.monitor.specs.SoFar.{IsTold, told_between}
+use Rattle.follow_laws.specs.Told.{all_told, told_between}
+use Rattle.monitor.specs.SoFar.{IsTold}
 use Rattle.monitor.specs.Telling.{TellsLeft}
 use Rattle.monitor.specs.Whole.{TellsAll}
 use Rattle.monitor.proofs.RunLemmas.{from_first, told_all}
@@ -37,9 +37,10 @@ use Rattle.follow.specs.Running as running
 use Rattle.follow.specs.Running.{Run}
 use Rattle.follow.specs.Lines.{IsSoFar, TellsLines}
 use Rattle.follow.specs.SoFar.{TellsRest}
-use Rattle.follow.specs.Told.{IsToldFrom, IsToldOf, asked}
+use Rattle.carry_laws.specs.Asked.{asked}
+use Rattle.follow.specs.Told.{IsToldFrom, IsToldOf}
 use Rattle.follow.specs.declared.follower.Follower.{Follower}
-use Rattle.follow.proofs.AskLemmas.{all_asked, asked_of_base}
+use Rattle.carry_laws.proofs.AskLemmas.{all_asked, asked_of_base}
 use Rattle.follow.proofs.BeatLemmas.{are_true, are_true_so_far}
 use Rattle.follow.proofs.RunLemmas.{failed_at_last, held_on, never_failed, stopped, stopped_alike, IsFine}
 

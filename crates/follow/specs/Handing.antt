@@ -1,11 +1,12 @@
 -- What a run comes to that begins behind a log, and hands on.
-use Rattle.std.specs.Prelude.{◌≡◌, ◌==◌, ◌&&◌, ◌||◌, ◌-◌, ◌+◌, nat_lt, ℕ, Bool, true, is_some, List, [], ◌++◌, codes, drop, filter, length, IfSome, Ok, string_bytes, if◌then◌else◌}
+use Rattle.std.specs.Prelude.{◌≡◌, ◌==◌, ◌&&◌, ◌||◌, ◌-◌, ◌+◌, ◌≤◌, nat_lt, ℕ, Bool, true, is_some, List, [], ◌++◌, Option, codes, drop, filter, length, IfSome, Ok, string_bytes, if◌then◌else◌}
 use Rattle.std.specs.List.{flat_map}
 use Rattle.trace_lines.specs.Values.{EntryValue, TraceValue}
 use Rattle.findings.specs.Report.{last_lines}
 use Rattle.findings.specs.declared.finding.Finding.{Finding}
 use Rattle.monitor.specs.Standing.{open_entries}
-use Rattle.carry.specs.Texts.{carry_text}
+use Rattle.json_lines.specs.Reading.{line_count}
+use Rattle.carry.specs.Opening.{carry_at}
 use Rattle.carry.specs.Values.{CarryValue}
 use Rattle.runs.specs.Handed.{IsCarryOf}
 use Rattle.runs.specs.Kept.{KeptValue, log_behind}
@@ -15,6 +16,11 @@ use Rattle.follow.specs.Heartbeats.{AreTrue}
 use Rattle.follow.specs.Pieces.{Piece, number_text, text_of, told_in}
 use Rattle.follow.specs.Running as running
 use Rattle.follow.specs.Told.{IsToldFrom}
+use Rattle.follow_laws.specs.Told.{told_between}
+use Rattle.carry_laws.specs.Asked.{asked}
+use Rattle.evidence_check.specs.Steps.{StepValue}
+use Rattle.audit.specs.Made.{IsMade}
+use Rattle.monitor.specs.SoFar.{AreAllowedBetween}
 use Rattle.follow.specs.declared.follower.Follower.{Follower}
 use Rattle.follow.specs.declared.handing.RunEnd.{RunEnd}
 
@@ -50,30 +56,37 @@ run_lines whole base begun t told = flat_map (unasked_line base) (drop begun t.e
     ++ (codes "open " ++ (number_text (length (open_entries t)) (codes "\n")
     ++ run_report whole told (length t.entries - begun)))))
 
--- the bytes are the text of a carry of a log
-abbrev pub IsCarryText : TraceValue → List ℕ → Type 0
-IsCarryText t bytes = (c : CarryValue) × (bytes ≡ carry_text c) × IsCarryOf t c
+-- the bytes are read as a carry of a log, whose base is at this one or above, and which counts so many lines
+pub record IsHandedOn (base lines : ℕ) (t : TraceValue) (bytes : List ℕ) : Type 0 where
+  pub carry : CarryValue
+  pub read : carry_at bytes ≡ Ok carry
+  pub of : IsCarryOf t carry
+  pub rises : base ≤ carry.base
+  pub counted : carry.lines ≡ lines
 
--- how a run ends whose follower took all lines of a log
-pub record IsRunEnd (t : TraceValue) (f : Follower) (begun : ℕ) (text : List ℕ) (end : RunEnd) : Type 0 where
-  pub lines : text ≡ run_lines end.whole f.base begun t f.told.items
+-- how a run ends whose follower took all lines of a log, which are so many
+pub record IsRunEnd (t : TraceValue) (f : Follower) (begun lines : ℕ) (text : List ℕ) (end : RunEnd) : Type 0 where
+  pub last : text ≡ run_lines end.whole f.base begun t f.told.items
   pub verdict : end.verdict ≡ verdict_of f.told.items
   pub whole : end.whole ≡ is_whole (is_some end.carry) f.base begun t
-  pub carry : IfSome end.carry (λ s. IsCarryText t (string_bytes s))
+  pub carry : IfSome end.carry (λ s. IsHandedOn f.base lines t (string_bytes s))
 
--- All of the bytes say a log behind the one that stands, and what its lines let tell was told, on entries that ask at
--- the base or above; the heartbeats are true of it, and the last lines stand behind it. What is handed on is a carry of
--- that log.
+-- All of the bytes say a log behind the one that stands, and all that their lines let tell was told, on entries that ask
+-- at the base or above, by steps that are made for each entry that they settle; the heartbeats are true of it, and the
+-- last lines stand behind it. What is handed on is a carry of that log, whose base is no lower, and which counts the
+-- lines of all runs.
 pub record RunEnds (k : KeptValue) (base : ℕ) (a old new : List ℕ) (end : RunEnd) : Type 0 where
   pub trace : TraceValue
   pub said : log_behind k true a ≡ Ok trace
+  pub given : List (Option (List StepValue))
+  pub made : AreAllowedBetween IsMade trace (k.lines + 1) (k.lines + line_count a + 1) given
   pub pieces : List Piece
-  pub told : IsToldFrom (log_behind k) (k.lines + 1) base a (told_in pieces)
+  pub told : told_in pieces ≡ asked base trace (told_between trace given (k.lines + 1) (k.lines + line_count a + 1))
   pub beats : AreTrue trace pieces []
   pub went : new ≡ old ++ (text_of pieces ++ run_lines end.whole base (length k.log.entries) trace (told_in pieces))
   pub verdict : end.verdict ≡ verdict_of (told_in pieces)
   pub whole : end.whole ≡ is_whole (is_some end.carry) base (length k.log.entries) trace
-  pub carry : IfSome end.carry (λ s. IsCarryText trace (string_bytes s))
+  pub carry : IfSome end.carry (λ s. IsHandedOn base (k.lines + line_count a) trace (string_bytes s))
 
 -- the last lines of a run went out, behind what was told
 pub record EndsRun (k : KeptValue) (base : ℕ) (a : List ℕ) (pieces : List Piece) (ending : List ℕ) (v : Verdict)

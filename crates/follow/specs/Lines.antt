@@ -2,7 +2,10 @@
 use Rattle.std.specs.Prelude.{◌≡◌, ℕ, true, List, ◌++◌, Ok}
 use Rattle.userset_index.specs.Growth.{IsGrowing}
 use Rattle.userset_index.specs.Index.{IndexValue}
+use Rattle.json_lines.specs.Reading.{line_count}
+use Rattle.trace_lines.specs.Placed.{AreInPlace}
 use Rattle.trace_lines.specs.Values.{TraceValue}
+use Rattle.follow_laws.specs.Begun.{IsOfBytes}
 use Rattle.runs.specs.Kept.{KeptValue}
 use Rattle.monitor.specs.Standing.{IsAtEnd}
 use Rattle.audit.specs.Audit.{Says}
@@ -21,11 +24,14 @@ IsSoFar says first base = WentOut says (IsToldFrom says first base) (λ a pieces
 pub record TellsLines (says : Says) (f : Follower) (a old new : List ℕ) (read : KeptValue × IndexValue × ℕ)
     : Type 0 where
   pub said : says true a ≡ Ok read.0.log
+  pub counted : read.2 ≡ line_count a
   pub pieces : List Piece
   pub went : new ≡ old ++ text_of pieces
   pub same : f.told.items ≡ told_in pieces
   pub followed : IsFollowed read.0.log f
   pub all : IsAtEnd read.0.log f.monitor
+  pub placed : AreInPlace read.0.log
+  pub good : IsOfBytes read.0.log
   pub silent : AreSilent pieces
   pub through : AreThrough read.0.log pieces
   pub longer : (u : TraceValue) → GoesOnAs says a u → AreThrough u pieces

@@ -1,8 +1,9 @@
 -- What reading the lines of a run comes to.
-use Rattle.std.specs.Prelude.{◌≡◌, ◌≢◌, ℕ, ◌+◌, ◌<◌, ◌≤◌, Bool, true, List, Option, Result, Ok, Err}
-use Rattle.devices.specs.Given.{AreNext}
+use Rattle.std.specs.Prelude.{◌≡◌, ◌≢◌, ℕ, ◌+◌, ◌<◌, ◌≤◌, Bool, true, false, List, Option, Result, Ok, Err}
+use Rattle.devices.specs.Given.{AreNext, OfBytes}
 use Rattle.json_lines.specs.Json.{taken_line}
-use Rattle.json_lines.specs.SoFar.{IsReadSoFar}
+use Rattle.json_lines.specs.Reading.{line_count}
+use Rattle.json_lines.specs.SoFar.{IsReadSoFar, lines_taken}
 use Rattle.json_lines.specs.declared.next.LineReader.{LineReader}
 use Rattle.json_lines.specs.declared.reading.TheConstants.{MAX_INPUT}
 use Rattle.trace_lines.specs.Values.{TraceValue}
@@ -43,5 +44,9 @@ pub record TakesLine {R : Type 0} (given : R → List ℕ) (ends failures : R �
       → IsKeptSoFar given ends failures remaining first old_reader start old old_lines
       → (says : Says) → IsSaidBehind start says
       → LogRead says (reads given ends failures remaining first new_reader) (log_by new result)
+  -- behind the last line it counts them
+  pub counted : result ≡ Ok false → (first : R) (start : KeptValue)
+      → IsKeptSoFar given ends failures remaining first old_reader start old old_lines
+      → OfBytes given first new_reader (λ a. lines_taken new_lines ≡ line_count a)
   -- what came is the next of what the reader had left, where that is known
   pub known : AreNext given ends remaining old_reader new_reader

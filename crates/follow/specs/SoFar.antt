@@ -12,7 +12,7 @@ use Rattle.monitor.specs.Standing.{AreBehind, IsAtEnd, Stands}
 use Rattle.monitor.specs.Telling.{TellsLeft}
 use Rattle.follow.specs.Heartbeats.{AreSettledTo, Beats}
 use Rattle.follow.specs.Pieces.{Piece, piece_text}
-use Rattle.follow.specs.Told.{asked}
+use Rattle.carry_laws.specs.Asked.{asked}
 use Rattle.follow.specs.declared.follower.Follower.{Follower}
 
 -- Some of the log's lines were taken, from the first on, and what is told there from the follower's first line on, and of

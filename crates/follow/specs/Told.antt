@@ -1,22 +1,14 @@
 -- What was told of the lines so far.
-use Rattle.std.specs.Prelude.{◌≡◌, ◌==◌, ◌||◌, not, nat_le, ℕ, Bool, List, filter, Option, Ok, true}
-use Rattle.std.specs.List.{list_all}
+use Rattle.std.specs.Prelude.{◌≡◌, ℕ, List, Option, Ok, true}
 use Rattle.trace_lines.specs.Traces.{trace_of}
 use Rattle.trace_lines.specs.Values.{TraceValue}
 use Rattle.evidence_check.specs.Steps.{StepValue}
 use Rattle.findings.specs.declared.finding.Finding.{Finding}
 use Rattle.audit.specs.Audit.{Says}
 use Rattle.audit.specs.Made.{IsMade}
-use Rattle.follow_laws.specs.Told.{told_before}
-use Rattle.monitor.specs.SoFar.{AreAllowedBetween, told_between}
-
--- an entry on this line, if there is one, asks at the base or above
-abbrev pub is_asked : ℕ → TraceValue → ℕ → Bool
-is_asked base t line = list_all (λ e. not (e.line == line) || nat_le base e.snapshot) t.entries
-
--- the findings on such entries: a log that was begun does not know the store below its base
-abbrev pub asked : ℕ → TraceValue → List Finding → List Finding
-asked base t found = filter (λ f. is_asked base t f.line) found
+use Rattle.follow_laws.specs.Told.{told_before, told_between}
+use Rattle.carry_laws.specs.Asked.{asked}
+use Rattle.monitor.specs.SoFar.{AreAllowedBetween}
 
 -- The lines say a trace, and this is what is told at the first of its lines (`told_before`), by steps that are made
 -- for each entry that they settle. So it is true of each longer log (`follow_laws::laws::told_is_true`).

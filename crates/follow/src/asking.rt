@@ -2,7 +2,7 @@
 
 ghost use Rattle.std.specs.Prelude.{◌≡◌, ◌<◌, ◌≤◌, ◌++◌, ℕ, Some, length, slice_get, OnOk};
 ghost use Rattle.trace_lines.specs.Values.{EntryValue};
-ghost use Rattle.follow.specs.Told.{asked, is_asked};
+ghost use Rattle.carry_laws.specs.Asked.{asked, is_asked};
 
 use findings::Finding;
 use std::alloc::AllocError;

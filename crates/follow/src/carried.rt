@@ -12,11 +12,11 @@ ghost use Rattle.follow.specs.declared.carried.CarryRefusal.TheVariants as refus
 ghost use Rattle.follow.specs.Running.{Run};
 
 use crate::handing::{Handing, RunEnd, follow_run};
-use crate::whole::read_whole;
+use crate::whole::read_up_to;
 use audit::AuditFault;
 use carry::{CarryFault, read_carry};
 use devices::{Sink, Source};
-use json_lines::InputFault;
+use json_lines::{InputFault, MAX_INPUT};
 use runs::{BeginFault, KeptLog};
 use std::alloc::{AllocError, Global};
 use thiserror::Error;
@@ -95,7 +95,7 @@ fn begin_with<C: Source>(alloc: Global, carry: &mut C) -> Result<Begun, CarryRef
         (reads C.given C.ends C.failures C.remaining carry.old carry.new) result }
     ensures further { IfOk result (λ r. next_line r.log.log ≤ r.log.lines + 1) }
 {
-    let bytes = match read_whole(alloc, carry) {
+    let bytes = match read_up_to(alloc, carry, MAX_INPUT) {
         Ok(bytes) => bytes,
         Err(InputFault::Read) => return Err(CarryRefusal::Read),
         Err(InputFault::TooLong) => return Err(CarryRefusal::TooLong),

@@ -110,11 +110,7 @@ pub(crate) fn follow_lines<A: Source, W: Sink>(
     }
     // the last lines of the report say more than a heartbeat
     let log = tell(log, &mut usersets, None, follower, out)?;
-    // behind the last newline no line is begun
-    let read = lines
-        .number
-        .saturating_sub(u64::from(lines.line.is_empty()));
-    Ok((log, usersets, read))
+    Ok((log, usersets, lines.count()))
 }
 
 /// Writes what is left at the end of the log, and the last lines.

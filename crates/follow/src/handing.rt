@@ -15,7 +15,7 @@ ghost use Rattle.audit.specs.Parts.{Told};
 ghost use Rattle.runs.specs.DeclaredTexts.{texts_of};
 ghost use Rattle.runs.specs.Handed.{AreDeclarationsOf};
 ghost use Rattle.runs.specs.Kept.{log_behind};
-ghost use Rattle.follow.specs.Handing.{IsCarryText, IsRunEnd, RunEnds, RunWentOut, run_lines, run_report, unasked_at, unasked_line, unaudited};
+ghost use Rattle.follow.specs.Handing.{IsHandedOn, IsRunEnd, RunEnds, RunWentOut, run_lines, run_report, unasked_at, unasked_line, unaudited};
 ghost use Rattle.follow.specs.Handing as spec;
 ghost use Rattle.follow.specs.Pieces.{number_text};
 ghost use Rattle.follow.specs.Running.{Run};
@@ -164,16 +164,18 @@ fn last_base(trace: &Trace, oldest: u64) -> u64 {
     }
 }
 
-/// The text of a carry of a log behind so many lines, where one is asked for, and it has a base.
+/// The text of a carry of a log behind so many lines, where one is asked for, and it has a base that is not below this
+/// one.
 fn handed_text(
     alloc: Global,
     trace: &Trace,
     declared: &[DeclaredLine],
+    base: u64,
     lines: u64,
     handing: Option<Handing<'_>>,
 ) -> Result<Option<String>, AllocError>
     requires { AreDeclarationsOf trace.now (texts_of declared.now) }
-    ensures { IfOk result (λ o. IfSome o (λ s. IsCarryText trace.now (string_bytes s))) }
+    ensures { IfOk result (λ o. IfSome o (λ s. IsHandedOn base lines trace.now (string_bytes s))) }
 {
     let Some(handing) = handing else {
         return Ok(None);
@@ -186,38 +188,48 @@ fn handed_text(
         last_base(trace, handing.oldest),
         handing.before,
     )? {
-        Some(carry) => Ok(Some(write_carry(alloc, &carry)?)),
-        None => Ok(None),
+        Some(carry) if base <= carry.base => Ok(Some(write_carry(alloc, &carry)?)),
+        _ => Ok(None),
     }
+}
+
+/// How much of a log stood there when a run began.
+#[derive(Clone, Copy)]
+struct Start {
+    lines: u64,
+    entries: usize,
 }
 
 /// Writes the last lines of a run, and hands its log on where that is asked for, of which so many lines were read.
 fn end_run<W: Sink>(
     log: KeptLog,
     usersets: UsersetIndex,
+    start: Start,
     read: u64,
-    begun: usize,
     handing: Option<Handing<'_>>,
     follower: &Follower,
     out: &mut W,
 ) -> Result<RunEnd, AuditFault>
-    requires begun { begun ≤ length log.log.entries }
+    requires begun { start.entries ≤ length log.log.entries }
     requires followed { IsFollowed log.log follower.now }
     requires all { IsAtEnd log.log follower.now.monitor }
     requires indexed { IsGrowing log.log.declarations log.log.commits usersets }
-    ensures { Told (IsRunEnd log.log follower.now begun)
+    ensures { Told (IsRunEnd log.log follower.now start.entries (start.lines + read))
         (writes W.taken W.flushes W.failures W.idle W.contents out.old out.new) result }
 {
     let alloc = follower.alloc;
-    let (before, log, declared) = log.into_parts();
+    let (_, log, declared) = log.into_parts();
     let paused = log.pause(usersets);
-    let lines = before.saturating_add(read);
     let trace = paused.trace();
-    let carry = handed_text(alloc, trace, &declared, lines, handing)?;
-    let unaudited = count_unaudited(trace, follower.base, begun);
+    // no memory holds a log whose lines have no number
+    let Some(lines) = start.lines.checked_add(read) else {
+        return Err(AuditFault::OutOfMemory);
+    };
+    let carry = handed_text(alloc, trace, &declared, follower.base, lines, handing)?;
+    let unaudited = count_unaudited(trace, follower.base, start.entries);
     let open = follower.monitor.count_open(trace);
     let whole = is_whole(unaudited, open, carry.is_some());
-    let text = run_text(follower, trace, begun, unaudited, whole)?;
+    let text = run_text(follower, trace, start.entries, unaudited, whole)?;
     let end = RunEnd {
         verdict: follower.verdict(),
         whole,
@@ -231,10 +243,10 @@ fn stand_behind(
     alloc: Global,
     log: KeptLog,
     base: u64,
-) -> Result<(KeptLog, Follower, usize), AllocError>
+) -> Result<(KeptLog, Follower, Start), AllocError>
     requires { next_line log.log ≤ log.lines + 1 }
     ensures log { IfOk result (λ r. r.0 ≡ log) }
-    ensures begun { IfOk result (λ r. r.2 ≡ length log.log.entries) }
+    ensures start { IfOk result (λ r. (r.2.lines ≡ log.lines) × (r.2.entries ≡ length log.log.entries)) }
     ensures told { IfOk result (λ r. r.1.told.items ≡ []) }
     ensures from { IfOk result (λ r. (r.1.first ≡ log.lines + 1) × (r.1.base ≡ base)) }
     ensures followed { IfOk result (λ r. (u : TraceValue) → GoesOn log.lines log.log u → AreInPlace u → IsOfBytes u
@@ -252,11 +264,11 @@ fn stand_behind(
     entries_rise(trace);
     versions_issued_once(trace);
     valid_strata(trace);
-    let begun = trace.len();
+    let entries = trace.len();
     let follower = Follower::behind(alloc, trace, first, base)?;
     let (log, _) = paused.resume();
     let log = KeptLog::from_parts(alloc, lines, log, declared);
-    Ok((log, follower, begun))
+    Ok((log, follower, Start { lines, entries }))
 }
 
 /// Follows the lines of a run behind a log, as [`follow`](crate::follow) does those of a trace: what was told of the
@@ -284,7 +296,7 @@ pub fn follow_run<A: Source, W: Sink>(
         (writes W.taken W.flushes W.failures W.idle W.contents out.old out.new) result }
     ensures kinds { IfErr result (IsOneOf (kind.trace ∷ kind.write ∷ kind.memory ∷ [])) }
 {
-    let (log, mut follower, begun) = stand_behind(alloc, log, base)?;
+    let (log, mut follower, start) = stand_behind(alloc, log, base)?;
     let (log, usersets, read) = follow_lines(log, &mut follower, trace, out, heartbeats)?;
-    end_run(log, usersets, read, begun, handing, &follower, out)
+    end_run(log, usersets, start, read, handing, &follower, out)
 }

@@ -5,10 +5,9 @@ ghost use Rattle.devices.specs.Given.{AreNext, OfBytes, OfWhole};
 ghost use Rattle.devices.specs.Moves.{end_count};
 ghost use Rattle.json_lines.specs.declared.lines.TheConstants.{CHUNK};
 ghost use Rattle.json_lines.specs.declared.lines.InputFault.TheVariants.{Read, TooLong};
-ghost use Rattle.json_lines.specs.declared.reading.TheConstants.{MAX_INPUT};
 
 use devices::Source;
-use json_lines::{CHUNK, InputFault, MAX_INPUT};
+use json_lines::{CHUNK, InputFault};
 use std::alloc::Global;
 
 /// Reads more behind the bytes at hand, by one call of the reader, and says whether anything came.
@@ -39,12 +38,17 @@ fn read_more<R: Source>(
     }
 }
 
-/// All bytes of a reader, to its end, where they are no more than `max`.
-fn read_up_to<R: Source>(alloc: Global, reader: &mut R, max: usize) -> Result<Vec<u8>, InputFault>
+/// All bytes of a reader, to its end. Of more than `max` bytes it says that they are too long, and asks for no more.
+pub(crate) fn read_up_to<R: Source>(
+    alloc: Global,
+    reader: &mut R,
+    max: usize,
+) -> Result<Vec<u8>, InputFault>
     ensures whole { IfOk result (λ v. OfWhole R.given R.ends reader.old reader.new (λ a. v.items ≡ a)) }
     ensures long { result ≡ Err TooLong → OfBytes R.given reader.old reader.new (λ came. max < length came) }
     ensures few { OfBytes R.given reader.old reader.new (λ came. length came ≤ max + CHUNK) }
     ensures known { AreNext R.given R.ends R.remaining reader.old reader.new }
+    // A reader's failure alone gives this error.
     ensures failed { result ≡ Err Read → R.failures reader.new ≡ R.failures reader.old + 1 }
     ensures kept { result ≢ Err Read → R.failures reader.new ≡ R.failures reader.old }
 {
@@ -62,17 +66,4 @@ fn read_up_to<R: Source>(alloc: Global, reader: &mut R, max: usize) -> Result<Ve
         }
     }
     Err(InputFault::TooLong)
-}
-
-/// All bytes of a reader, to its end. Of more than 2^30 bytes it says that they are too long, and asks for no more.
-pub(crate) fn read_whole<R: Source>(alloc: Global, reader: &mut R) -> Result<Vec<u8>, InputFault>
-    ensures whole { IfOk result (λ v. OfWhole R.given R.ends reader.old reader.new (λ a. v.items ≡ a)) }
-    ensures long { result ≡ Err TooLong → OfBytes R.given reader.old reader.new (λ came. MAX_INPUT < length came) }
-    ensures few { OfBytes R.given reader.old reader.new (λ came. length came ≤ MAX_INPUT + CHUNK) }
-    ensures known { AreNext R.given R.ends R.remaining reader.old reader.new }
-    // A reader's failure alone gives this error.
-    ensures failed { result ≡ Err Read → R.failures reader.new ≡ R.failures reader.old + 1 }
-    ensures kept { result ≢ Err Read → R.failures reader.new ≡ R.failures reader.old }
-{
-    read_up_to(alloc, reader, MAX_INPUT)
 }

@@ -159,23 +159,63 @@ none_before [] = refl
 none_before ((None, f) ∷ xs) = none_before xs
 none_before ((Some l, f) ∷ xs) = rw (le-ltb l 0 (omega arith)) (none_before xs)
 
-module _ (t : TraceValue) (evidence : List (Option (List StepValue))) where
-  abbrev every : List Timed
-  every = timed_from t evidence 0 t.entries
+-- ---- those on lines that pass a test
 
-  before_told : (k : ℕ) → IsPermutation (told_before t evidence k) (map finding_of (filter (when (is_before k)) every))
+abbrev pub passes : (ℕ → Bool) → Finding → Bool
+passes pass f = pass f.line
+
+abbrev passes_too : (ℕ → Bool) → Timed → Bool
+passes_too pass x = pass x.1.line
+
+passed : (pass : ℕ → Bool) (xs : List Timed)
+    → filter (passes pass) (map finding_of xs) ≡ map finding_of (filter (passes_too pass) xs)
+passed pass [] = refl
+passed pass (x ∷ xs) = by_test (passed pass xs) (pass x.1.line)
+  where
+    by_test : filter (passes pass) (map finding_of xs) ≡ map finding_of (filter (passes_too pass) xs) → (b : Bool)
+        → cond b (x.1 ∷ filter (passes pass) (map finding_of xs)) (filter (passes pass) (map finding_of xs))
+        ≡ map finding_of (cond b (x ∷ filter (passes_too pass) xs) (filter (passes_too pass) xs))
+    by_test rest true = ap (λ (fs : List Finding). x.1 ∷ fs) rest
+    by_test rest false = rest
+
+either_first : (p q : Timed → Bool) (xs : List Timed) → filter p (filter q xs) ≡ filter q (filter p xs)
+either_first p q [] = refl
+either_first p q (x ∷ xs) = by_tests (either_first p q xs) (p x) refl (q x) refl
+  where
+    by_tests : filter p (filter q xs) ≡ filter q (filter p xs) → (a : Bool) → p x ≡ a → (b : Bool) → q x ≡ b
+        → filter p (cond b (x ∷ filter q xs) (filter q xs)) ≡ filter q (cond a (x ∷ filter p xs) (filter p xs))
+    by_tests rest true is true also = rw (is, also) (ap (λ (ys : List Timed). x ∷ ys) rest)
+    by_tests rest true is false also = rw also rest
+    by_tests rest false is true also = rw is rest
+    by_tests rest false is false also = rest
+
+module _ (pass : ℕ → Bool) (t : TraceValue) (evidence : List (Option (List StepValue))) where
+  abbrev every : List Timed
+  every = filter (passes_too pass) (timed_from t evidence 0 t.entries)
+
+  told_then : (test : Option ℕ → Bool)
+      → filter (passes pass) (told_from test t evidence 0 t.entries) ≡ map finding_of (filter (when test) every)
+  told_then test =
+      ap (filter (passes pass)) (told_timed test t evidence 0 t.entries)
+      ∙ passed pass (filter (when test) (timed_from t evidence 0 t.entries))
+      ∙ ap (map finding_of) (either_first (passes_too pass) (when test) (timed_from t evidence 0 t.entries))
+
+  before_told : (k : ℕ)
+      → IsPermutation (filter (passes pass) (told_before t evidence k)) (map finding_of (filter (when (is_before k)) every))
   before_told zero = rw (none_before every) (IsPermutation-refl [])
   before_told (suc k) =
       let earlier = filter (when (is_before k)) every in
       let now = filter (when (is_at k)) every in
       let later = filter (when (is_before (suc k))) every in
-      IsPermutation-trans (told_before t evidence k ++ told_on t evidence k) (map finding_of earlier ++ told_on t evidence k)
-      (map finding_of later)
-      (IsPermutation-append_left (told_on t evidence k) (told_before t evidence k) (map finding_of earlier) (before_told k))
-      (subst (λ (fs : List Finding). IsPermutation fs (map finding_of later)) (map-append finding_of earlier now
-      ∙ ap (λ (fs : List Finding). map finding_of earlier ++ fs) (sym (told_timed (is_at k) t evidence 0 t.entries)))
+      let before = filter (passes pass) (told_before t evidence k) in
+      subst (λ (fs : List Finding). IsPermutation fs (map finding_of later))
+      (sym (filter-append (passes pass) (told_before t evidence k) (told_on t evidence k)
+      ∙ ap (λ (fs : List Finding). before ++ fs) (told_then (is_at k))))
+      (IsPermutation-trans (before ++ map finding_of now) (map finding_of earlier ++ map finding_of now) (map finding_of later)
+      (IsPermutation-append_left (map finding_of now) before (map finding_of earlier) (before_told k))
+      (subst (λ (fs : List Finding). IsPermutation fs (map finding_of later)) (map-append finding_of earlier now)
       (IsPermutation-map finding_of (earlier ++ now) later (either_test (is_before k) (is_at k) (is_before (suc k))
-      (before_more k) (before_apart k) every)))
+      (before_more k) (before_apart k) every))))
 
 -- ---- each moment is a line of the log, or its end
 
@@ -334,26 +374,48 @@ entries_within : (n : ℕ) (t : TraceValue) → IsOfBytes t → next_line t ≤ 
 entries_within n t good le [] h = tt
 entries_within n t good le (e ∷ es) h = (moments_within t good e h.0 n le, entries_within n t good le es h.1)
 
+-- of the findings on lines that pass a test, each is told once
+pub once_among : (pass : ℕ → Bool) (n : ℕ) (t : TraceValue) → IsOfBytes t → next_line t ≤ n
+    → (evidence : List (Option (List StepValue)))
+    → IsPermutation (filter (passes pass) (told_before t evidence n) ++ filter (passes pass) (left_over t evidence))
+    (filter (passes pass) (findings_of t evidence))
+once_among pass n t good le evidence =
+    let all = timed_from t evidence 0 t.entries in
+    let xs = filter (passes_too pass) all in
+    let earlier = filter (when (is_before n)) xs in
+    let left = filter (when is_none) xs in
+    let within : Option ℕ → Bool = λ m. is_before n m || is_none m in
+    let whole = filter (when within) xs in
+    let before = filter (passes pass) (told_before t evidence n) in
+    let last : filter (passes pass) (left_over t evidence) ≡ map finding_of left = told_then pass t evidence is_none in
+    let full : map finding_of whole ≡ filter (passes pass) (findings_of t evidence) =
+    ap (map finding_of) (either_first (when within) (passes_too pass) all
+    ∙ ap (filter (passes_too pass)) (every_within n t evidence 0 t.entries
+    (entries_within n t good le t.entries (below_last (entry_lines t.entries) good.rising.entries))))
+    ∙ sym (passed pass all)
+    ∙ ap (filter (passes pass)) (sym (all_timed t evidence 0 t.entries)) in
+    subst (λ (fs : List Finding). IsPermutation (before ++ fs) (filter (passes pass) (findings_of t evidence))) (sym last)
+    (subst (λ (fs : List Finding). IsPermutation (before ++ map finding_of left) fs) full
+    (IsPermutation-trans (before ++ map finding_of left) (map finding_of earlier ++ map finding_of left) (map finding_of whole)
+    (IsPermutation-append_left (map finding_of left) before (map finding_of earlier) (before_told pass t evidence n))
+    (subst (λ (fs : List Finding). IsPermutation fs (map finding_of whole)) (map-append finding_of earlier left)
+    (IsPermutation-map finding_of (earlier ++ left) whole (either_test (is_before n) is_none within (λ m. refl)
+    (none_apart n) xs)))))
+
+all_pass : (fs : List Finding) → filter (passes (λ line. true)) fs ≡ fs
+all_pass [] = refl
+all_pass (f ∷ fs) = ap (λ (gs : List Finding). f ∷ gs) (all_pass fs)
+
 pub once_to : (n : ℕ) (t : TraceValue) → IsOfBytes t → next_line t ≤ n → (evidence : List (Option (List StepValue)))
     → IsPermutation (told_before t evidence n ++ left_over t evidence) (findings_of t evidence)
 once_to n t good le evidence =
-    let xs = timed_from t evidence 0 t.entries in
-    let earlier = filter (when (is_before n)) xs in
-    let left = filter (when is_none) xs in
-    let whole = filter (when (λ m. is_before n m || is_none m)) xs in
-    let last : left_over t evidence ≡ map finding_of left = told_timed is_none t evidence 0 t.entries in
-    let full : map finding_of whole ≡ findings_of t evidence = ap (map finding_of) (every_within n t evidence 0 t.entries
-    (entries_within n t good le t.entries (below_last (entry_lines t.entries) good.rising.entries)))
-    ∙ sym (all_timed t evidence 0 t.entries) in
-    IsPermutation-trans (told_before t evidence n ++ left_over t evidence) (map finding_of earlier ++ left_over t evidence)
-    (findings_of t evidence)
-    (IsPermutation-append_left (left_over t evidence) (told_before t evidence n) (map finding_of earlier) (before_told t
-    evidence n))
-    (subst (λ (fs : List Finding). IsPermutation (map finding_of earlier ++ left_over t evidence) fs) full
-    (subst (λ (fs : List Finding). IsPermutation fs (map finding_of whole)) (map-append finding_of earlier left
-    ∙ ap (λ (fs : List Finding). map finding_of earlier ++ fs) (sym last))
-    (IsPermutation-map finding_of (earlier ++ left) whole (either_test (is_before n) is_none (λ m. is_before n m || is_none
-    m) (λ m. refl) (none_apart n) xs))))
+    subst (λ (fs : List Finding). IsPermutation (told_before t evidence n ++ left_over t evidence) fs)
+    (all_pass (findings_of t evidence))
+    (subst (λ (fs : List Finding). IsPermutation (told_before t evidence n ++ fs) (filter (passes (λ line. true))
+    (findings_of t evidence))) (all_pass (left_over t evidence))
+    (subst (λ (fs : List Finding). IsPermutation (fs ++ filter (passes (λ line. true)) (left_over t evidence))
+    (filter (passes (λ line. true)) (findings_of t evidence))) (all_pass (told_before t evidence n))
+    (once_among (λ line. true) n t good le evidence)))
 
 pub once_law : (t : TraceValue) → IsOfBytes t → (evidence : List (Option (List StepValue)))
     → IsPermutation (all_told t evidence) (findings_of t evidence)

@@ -1,3 +1,4 @@
+pub mod Counts
 pub mod Cuts
 pub mod Exits
 pub mod Folds

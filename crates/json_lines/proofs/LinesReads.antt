@@ -1,5 +1,5 @@
 -- What is said of a reader where the reading of its lines stops.
-use Rattle.std.proofs.Common.{◌≡◌, ℕ, ◌+◌, ◌^◌, ◌≤◌, List, ◌++◌, length, Option, Result, Err, true, false}
+use Rattle.std.proofs.Common.{◌≡◌, ℕ, ◌+◌, ◌^◌, ◌≤◌, List, ◌++◌, Option, Result, Err, true, false}
 use Rattle.devices.specs.Given.{OfBytes, OfInput, AreNext}
 use Rattle.devices.proofs.Given.{next-trans}
 use Rattle.json_lines.specs.InputRead.{LinesRead}

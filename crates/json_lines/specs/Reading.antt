@@ -1,6 +1,6 @@
 -- What the lines of an input make of a value, up to the first fault.
-use Rattle.std.specs.Prelude.{◌≡◌, ℕ, ◌+◌, ◌-◌, ◌^◌, ◌≤◌, ◌==◌, ◌&&◌, ◌||◌, not, min, Bool, List, [], ◌∷◌, length, nat_lt, if◌then◌else◌, Result, Ok, Err, ⊤}
-use Rattle.std.specs.List.{slice_split}
+use Rattle.std.specs.Prelude.{◌≡◌, ℕ, ◌+◌, ◌-◌, ◌^◌, ◌≤◌, ◌==◌, ◌&&◌, ◌||◌, not, min, Bool, List, [], ◌∷◌, length, get_or, nat_lt, if◌then◌else◌, Result, Ok, Err, ⊤}
+use Rattle.std.specs.List.{count_by, slice_split}
 use Rattle.refusals.specs.Refusals.{◌>>=◌}
 use Rattle.json_lines.specs.declared.lines.InputFault.{InputFault}
 use Rattle.json_lines.specs.declared.lines.InputFault.TheVariants.{Read, TooLong, OutOfMemory}
@@ -26,6 +26,14 @@ read_from taken whole n room s (line ∷ lines) = if passes_limit room line (not
 
 abbrev pub parts : List ℕ → List (List ℕ)
 parts input = slice_split (λ b. b == 10) input
+
+-- the last byte is a newline, or there is none
+abbrev pub are_whole_lines : List ℕ → Bool
+are_whole_lines input = get_or input (length input - 1) 10 == 10
+
+-- how many lines an input has: behind the last newline none begins, unless bytes stand there
+abbrev pub line_count : List ℕ → ℕ
+line_count input = count_by (λ b. b == 10) input + (if are_whole_lines input then 0 else 1)
 
 -- these bytes have a line of this number; lines count from 1
 abbrev pub HasLine : List ℕ → ℕ → Type 0

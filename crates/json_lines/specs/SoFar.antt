@@ -1,5 +1,5 @@
 -- How far the lines of a reader were read.
-use Rattle.std.specs.Prelude.{◌≡◌, ℕ, ◌+◌, ◌<◌, ◌≤◌, ◌^◌, Bool, List, [], ◌∷◌, ◌++◌, length, Option, Result}
+use Rattle.std.specs.Prelude.{◌≡◌, ℕ, ◌+◌, ◌-◌, ◌<◌, ◌≤◌, ◌^◌, ◌==◌, if◌then◌else◌, Bool, List, [], ◌∷◌, ◌++◌, length, Option, Result}
 use Rattle.devices.specs.Given.{AreNext}
 use Rattle.json_lines.specs.Reading.{parts, read_from}
 use Rattle.json_lines.specs.declared.next.LineReader.{LineReader}
@@ -11,11 +11,16 @@ module _ {S C : Type 0} (taken : ℕ → S → List ℕ → Result S C) (start :
         ≡ read_from taken whole n room s (parts ys)
     pub counted : (ys : List ℕ) → length (parts (used ++ ys)) + 1 ≡ n + length (parts ys)
 
+-- how many lines were taken of an input whose last line was: behind the last newline none begins where nothing stands
+abbrev pub lines_taken : LineReader → ℕ
+lines_taken r = r.number - (if length r.line.items == 0 then 1 else 0)
+
 -- From `first` on a reader gave whole lines that made a value of what it was at the start, and behind them bytes that
 -- are at hand. It neither failed nor was at its end.
 pub record IsReadSoFar {R S C : Type 0} (given : R → List ℕ) (ends failures : R → ℕ) (remaining : R → Option (List ℕ))
     (taken : ℕ → S → List ℕ → Result S C) (first now : R) (start s : S) (r : LineReader) : Type 0 where
   pub used : List ℕ
+  pub none : r.number ≡ 1 → used ≡ []
   pub whole : 1 < r.number → (lines : List ℕ) × (used ≡ lines ++ 10 ∷ [])
   pub gave : given now ≡ (given first ++ used) ++ r.lines
   pub fits : length used + r.room ≤ 2 ^ 30

@@ -1,12 +1,12 @@
 //! The lines of a reader, one by one.
 
-ghost use Rattle.std.specs.Prelude.{◌≡◌, ◌≢◌, ◌+◌, ◌≤◌, ◌<◌, ◌^◌, [], length, Ok, true, IfOk, IfErr};
-ghost use Rattle.devices.specs.Given.{AreNext};
+ghost use Rattle.std.specs.Prelude.{◌≡◌, ◌≢◌, ◌+◌, ◌≤◌, ◌<◌, ◌^◌, [], length, Ok, true, false, IfOk, IfErr};
+ghost use Rattle.devices.specs.Given.{AreNext, OfBytes};
 ghost use Rattle.json_lines.specs.InputRead.{LinesRead};
 ghost use Rattle.json_lines.specs.Json.{taken_line};
 ghost use Rattle.json_lines.specs.Lines.{has_newline};
-ghost use Rattle.json_lines.specs.Reading.{IsOfSomeLine};
-ghost use Rattle.json_lines.specs.SoFar.{IsReadSoFar};
+ghost use Rattle.json_lines.specs.Reading.{IsOfSomeLine, line_count};
+ghost use Rattle.json_lines.specs.SoFar.{IsReadSoFar, lines_taken};
 ghost use Rattle.json_lines.specs.declared.lines.TheConstants.{CHUNK};
 ghost use Rattle.json_lines.specs.declared.reading.TheConstants.{MAX_INPUT};
 
@@ -49,6 +49,14 @@ impl LineReader {
         self.lines.holds_line()
     }
 
+    /// How many lines the input has, where the last was taken: behind the last newline none begins, unless bytes stand
+    /// there.
+    pub fn count(&self) -> u64
+        ensures { result ≡ lines_taken self.now }
+    {
+        self.number.saturating_sub(u64::from(self.line.is_empty()))
+    }
+
     /// Hands the next line to `value`, and says whether a further one follows. The reader is asked for more only where
     /// no whole line is at hand. It is refused as [`read_lines`](crate::read_lines) is.
     pub fn take_next<R: Source, T: TakeJson>(
@@ -74,6 +82,11 @@ impl LineReader {
             first reader.old start value.old self.old
             → LinesRead R.given R.ends R.failures R.remaining (taken_line T.Cause.not_json T.taken)
             first reader.new start value.new result }
+        // Behind the last line it counts those of the input.
+        ensures last { result ≡ Ok false → (first : R) (start : T)
+            → IsReadSoFar R.given R.ends R.failures R.remaining (taken_line T.Cause.not_json T.taken)
+            first reader.old start value.old self.old
+            → OfBytes R.given first reader.new (λ a. lines_taken self.new ≡ line_count a) }
         // What came is the next of what the reader had left, where that is known.
         ensures known { AreNext R.given R.ends R.remaining reader.old reader.new }
         // A cause is what some line gave.

@@ -11,12 +11,12 @@ use Rattle.findings.specs.declared.finding.Finding.{Finding}
 use Rattle.token_order.specs.Order.{commit_lines_of}
 use Rattle.windows.specs.Growth.{IsSettled}
 use Rattle.follow_laws.specs.Begun.{Begins}
-use Rattle.follow_laws.specs.Told.{line_reaching, settling_line, told_on}
+use Rattle.follow_laws.specs.Told.{line_reaching, settling_line, told_on, told_between}
 use Rattle.follow_laws.proofs.FirstLemmas.{first_law}
 use Rattle.follow_laws.proofs.OnceLemmas.{own_line}
 use Rattle.follow_laws.proofs.StaysLemmas.{reaching_more, stays_law}
 use Rattle.follow_laws.proofs.ThroughLemmas.{reaching}
-use Rattle.monitor.specs.SoFar.{IsTold, IsUpTo, told_between}
+use Rattle.monitor.specs.SoFar.{IsTold, IsUpTo}
 use Rattle.monitor.specs.Standing.{IsAtEnd, line_of}
 use Rattle.monitor.specs.declared.monitor.Monitor.{Monitor}
 use Rattle.windows.proofs.GrownLemmas.{behind}

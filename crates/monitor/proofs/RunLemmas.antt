@@ -12,9 +12,9 @@ use Rattle.evidence_check.specs.Evidences.{steps_of}
 use Rattle.evidence_check.specs.Steps.{StepValue}
 use Rattle.findings.specs.declared.finding.Finding.{Finding}
 use Rattle.follow_laws.specs.Begun.{IsOfBytes}
-use Rattle.follow_laws.specs.Told.{is_at, left_over, settling_line, told_before, told_from, told_on}
+use Rattle.follow_laws.specs.Told.{is_at, left_over, settling_line, told_before, told_from, told_on, told_between}
 use Rattle.follow_laws.proofs.OnceLemmas.{once_law, own_line}
-use Rattle.monitor.specs.SoFar.{IsTold, IsUpTo, told_between}
+use Rattle.monitor.specs.SoFar.{IsTold, IsUpTo}
 use Rattle.monitor.specs.Standing.{IsAtEnd, IsCommitNext, Takes, line_of}
 use Rattle.monitor.specs.Telling.{AreAllowedAt, TellsLeft, told_of}
 use Rattle.monitor.specs.Whole.{TellsAll}

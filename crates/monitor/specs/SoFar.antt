@@ -1,10 +1,10 @@
 -- What was told of a log so far, from one of its lines on.
-use Rattle.std.specs.Prelude.{◌≡◌, ℕ, zero, suc, ◌<◌, ◌≤◌, nat_le, List, [], ◌++◌, length, slice_get, Option, Some, if◌then◌else◌}
+use Rattle.std.specs.Prelude.{◌≡◌, ℕ, ◌<◌, ◌≤◌, List, ◌++◌, length, slice_get, Option, Some}
 use Rattle.trace_lines.specs.Values.{EntryValue, TraceValue}
 use Rattle.evidence_check.specs.Evidences.{steps_of}
 use Rattle.evidence_check.specs.Steps.{StepValue}
 use Rattle.findings.specs.declared.finding.Finding.{Finding}
-use Rattle.follow_laws.specs.Told.{settling_line, told_on}
+use Rattle.follow_laws.specs.Told.{settling_line, told_between}
 use Rattle.monitor.specs.Standing.{AreBehind, IsPast, line_of}
 use Rattle.monitor.specs.declared.monitor.Monitor.{Monitor}
 
@@ -14,11 +14,6 @@ pub record IsUpTo (t : TraceValue) (m : Monitor) (k : ℕ) : Type 0 where
   pub entries_from : (i : ℕ) (e : EntryValue) → slice_get t.entries i ≡ Some e → m.entries ≤ i → k ≤ e.line
   pub commits_before : (c : ℕ) → c < length t.commits → c < m.commits → line_of t c < k
   pub commits_from : (c : ℕ) → c < length t.commits → m.commits ≤ c → k ≤ line_of t c
-
--- the findings that are told from line n on, at the lines before line k
-abbrev pub told_between : TraceValue → List (Option (List StepValue)) → ℕ → ℕ → List Finding
-told_between t given n zero = []
-told_between t given n (suc k) = told_between t given n k ++ (if nat_le n k then told_on t given k else [])
 
 -- the steps for each entry that is settled from line n on, before line k, may be those
 abbrev pub AreAllowedBetween : (TraceValue → EntryValue → Option (List StepValue) → Type 0) → TraceValue → ℕ → ℕ

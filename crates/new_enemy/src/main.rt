@@ -5,8 +5,9 @@
 //! evidence, and write a tuple's history. [`run::run_on`] is the program on its devices, and says of them what they
 //! gave and took; what it audits by is the library `audit`.
 //!
-//! Callers may rely on this: the exit status tells what the audit answered, or why it gave no verdict; where it is 0,
-//! all that was read is a trace that is right and fresh, and evidence for it, and the report on them went out whole.
+//! Callers may rely on this: the exit status tells what the audit answered, or why it gave no verdict. Where an audit's
+//! is 0, all that was read is a trace that is right and fresh, and evidence for it, and the report on them went out
+//! whole. That of a run with a carry says what `specs/Carrying.antt` has.
 #![tactic(auto)]
 
 mod carrying;

@@ -124,7 +124,7 @@ fits : (k : ℕ) (r : Result TraceValue Cause) (u : TraceValue) → refused_at k
 fits k (Ok v) u h = let same : v ≡ u = cc in ap Ok same
 fits k (Err e) u h = cc
 
-put : (lines k last : ℕ) (t u : TraceValue) (i : ItemValue) → with_item lines k last t i ≡ Ok u
+pub put : (lines k last : ℕ) (t u : TraceValue) (i : ItemValue) → with_item lines k last t i ≡ Ok u
     → put_line i.line t (line_of i.said) ≡ Ok u
 put lines k last t u i h = by_test (nat_lt last i.line && nat_le i.line lines) h
   where

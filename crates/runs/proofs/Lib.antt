@@ -5,6 +5,7 @@ pub mod EntryLemmas
 pub mod KeptLemmas
 pub mod KeptReadLemmas
 pub mod LineLemmas
+pub mod SoundLemmas
 pub mod StandingLemmas
 pub mod TouchLemmas
 pub mod WalkLemmas

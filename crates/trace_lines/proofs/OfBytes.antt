@@ -60,13 +60,13 @@ both_hold P Q (Err e) p q = tt
 -- ---- what is kept from one line to the next
 
 -- no edge is broken, the commits are placed, and the entries stand on lines that rise, and issue no version twice
-record IsSound (t : TraceValue) : Type 0 where
-  orderly : IsOrderly t.declarations t.commits (added t.commits)
-  placed : ArePlaced t.commit_lines t.commits
-  rising : IsStrictlyIncreasing (entry_lines t.entries)
-  once : HasFirstIssuers t.entries
+pub record IsSound (t : TraceValue) : Type 0 where
+  pub orderly : IsOrderly t.declarations t.commits (added t.commits)
+  pub placed : ArePlaced t.commit_lines t.commits
+  pub rising : IsStrictlyIncreasing (entry_lines t.entries)
+  pub once : HasFirstIssuers t.entries
 
-sound_empty : IsSound empty_trace
+pub sound_empty : IsSound empty_trace
 sound_empty = record {
   orderly = orderly_empty;
   placed = placed_empty;
@@ -158,13 +158,13 @@ sound_declared None n t d le is = tt
 sound_declared (Some None) n t d le is = sound_namespace t d is
 sound_declared (Some (Some at)) n t d le is = sound_change at n t d le is
 
-sound_declaration : (n : ℕ) (t : TraceValue) (d : Data) → next_line t ≤ n → IsSound t → OkHas IsSound (declaration_line n t d)
+pub sound_declaration : (n : ℕ) (t : TraceValue) (d : Data) → next_line t ≤ n → IsSound t → OkHas IsSound (declaration_line n t d)
 unfolding declaration_line
 sound_declaration n t d le is = sound_declared (optional_number_at (codes "at") d) n t d le is
 
 -- ---- lines of commits
 
-sound_commit : (n : ℕ) (t : TraceValue) (c : Commit) → next_line t ≤ n → IsSound t → OkHas IsSound (with_commit n t c)
+pub sound_commit : (n : ℕ) (t : TraceValue) (c : Commit) → next_line t ≤ n → IsSound t → OkHas IsSound (with_commit n t c)
 unfolding with_commit
 sound_commit n t c le is =
     either_passes IsSound (are_declared t.declarations c.adds && are_declared t.declarations c.removes) _ (Err causes.Unknown)
@@ -181,7 +181,7 @@ sound_commit n t c le is =
 
 -- ---- lines of entries
 
-sound_entry : (n : ℕ) (t : TraceValue) (e : EntryValue) → next_line t ≤ n → e.line ≡ n → IsSound t → OkHas IsSound (with_entry t e)
+pub sound_entry : (n : ℕ) (t : TraceValue) (e : EntryValue) → next_line t ≤ n → e.line ≡ n → IsSound t → OkHas IsSound (with_entry t e)
 unfolding with_entry
 sound_entry n t e le at is =
     either_passes IsSound (is_declared t.declarations e.goal.set) (recorded t e) (Err causes.Unknown)
@@ -218,7 +218,7 @@ unfolding value_line
 sound_value n t d le is = sound_kind n t d (option_and_then as_str (get (codes "kind") d)) le is
 
 -- what holds before line n
-abbrev IsSoundBefore : ℕ → TraceValue → Type 0
+abbrev pub IsSoundBefore : ℕ → TraceValue → Type 0
 IsSoundBefore n t = IsSound t × (next_line t ≤ n)
 
 sound_json : (n : ℕ) (t : TraceValue) (o : Option Data) → IsSoundBefore n t → OkHas (IsSoundBefore (n + 1)) (of_json causes.NotJson (value_line n t) o)
@@ -236,7 +236,7 @@ on_line : {S C : Type 0} (P : S → Type 0) (n : ℕ) (r : Result S C) → OkHas
 on_line P n (Ok s) h = h
 on_line P n (Err c) h = tt
 
-sound_from : (n room : ℕ) (t : TraceValue) (lines : List (List ℕ)) → IsSoundBefore n t → OkHas IsSound (read_from (taken_line causes.NotJson value_line) true n room t lines)
+pub sound_from : (n room : ℕ) (t : TraceValue) (lines : List (List ℕ)) → IsSoundBefore n t → OkHas IsSound (read_from (taken_line causes.NotJson value_line) true n room t lines)
 sound_from n room t [] is = is.0
 sound_from n room t (line ∷ lines) is =
     either_passes IsSound (passes_limit room line (not (length lines == 0))) _ _ tt
@@ -256,21 +256,29 @@ sound_bytes bytes t h =
 
 -- ---- the laws
 
+module _ (t : TraceValue) (is : IsSound t) where
+  pub strata_of_sound : (at : ℕ) → HasValidStrata (rule_at t.declarations at) (store_at t.commits at)
+  strata_of_sound = valid_strata t.declarations t.commits (added t.commits) is.orderly
+
+  pub versions_of_sound : AreIssuedOnce t.entries
+  versions_of_sound = first_issuers_once t.entries is.once
+
+  pub commits_of_sound : HasPlacedCommits t
+  commits_of_sound = record {
+    counted = is.placed.counted;
+    lines = is.placed.lines_rise;
+    timestamps = is.placed.times_rise;
+    once = touch-once t.commits is.placed.apart;
+  }
+
 pub strata_of_bytes : (bytes : List ℕ) (t : TraceValue) → trace_of true bytes ≡ Ok t → (at : ℕ) → HasValidStrata (rule_at t.declarations at) (store_at t.commits at)
-strata_of_bytes bytes t h = valid_strata t.declarations t.commits (added t.commits) (sound_bytes bytes t h).orderly
+strata_of_bytes bytes t h = strata_of_sound t (sound_bytes bytes t h)
 
 pub lines_of_bytes : (bytes : List ℕ) (t : TraceValue) → trace_of true bytes ≡ Ok t → IsStrictlyIncreasing (entry_lines t.entries)
 lines_of_bytes bytes t h = (sound_bytes bytes t h).rising
 
 pub versions_of_bytes : (bytes : List ℕ) (t : TraceValue) → trace_of true bytes ≡ Ok t → AreIssuedOnce t.entries
-versions_of_bytes bytes t h = first_issuers_once t.entries (sound_bytes bytes t h).once
+versions_of_bytes bytes t h = versions_of_sound t (sound_bytes bytes t h)
 
 pub commits_placed : (bytes : List ℕ) (t : TraceValue) → trace_of true bytes ≡ Ok t → HasPlacedCommits t
-commits_placed bytes t h =
-    let placed = (sound_bytes bytes t h).placed in
-    record {
-      counted = placed.counted;
-      lines = placed.lines_rise;
-      timestamps = placed.times_rise;
-      once = touch-once t.commits placed.apart;
-    }
+commits_placed bytes t h = commits_of_sound t (sound_bytes bytes t h)

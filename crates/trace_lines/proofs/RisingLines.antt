@@ -53,7 +53,7 @@ after_push ns n =
 
 -- ---- what each line leaves
 
-abbrev Fits : ℕ → TraceValue → Type 0
+abbrev pub Fits : ℕ → TraceValue → Type 0
 Fits n t = next_line t ≤ n + 1
 
 fits_as_before : (n : ℕ) (t : TraceValue) → next_line t ≤ n → Fits n t
@@ -79,17 +79,17 @@ fits_declared None n t d le = tt
 fits_declared (Some None) n t d le = fits_namespace n t d le
 fits_declared (Some (Some at)) n t d le = fits_change at n t d le
 
-fits_declaration : (n : ℕ) (t : TraceValue) (d : Data) → next_line t ≤ n → OkHas (Fits n) (declaration_line n t d)
+pub fits_declaration : (n : ℕ) (t : TraceValue) (d : Data) → next_line t ≤ n → OkHas (Fits n) (declaration_line n t d)
 unfolding declaration_line
 fits_declaration n t d le = fits_declared (optional_number_at (codes "at") d) n t d le
 
-fits_commit : (n : ℕ) (t : TraceValue) (c : Commit) → next_line t ≤ n → OkHas (Fits n) (with_commit n t c)
+pub fits_commit : (n : ℕ) (t : TraceValue) (c : Commit) → next_line t ≤ n → OkHas (Fits n) (with_commit n t c)
 unfolding with_commit
 fits_commit n t c le =
     either_passes (Fits n) (are_declared t.declarations c.adds && are_declared t.declarations c.removes) _ _ (passes (Fits n) (commit_checked t.declarations (changes_of t) c.at c.adds c.removes) _ (λ u. fits_touches n t c le)) tt
 
 -- where an entry of a line stands
-abbrev StandsAt : ℕ → ℕ → EntryValue → Type 0
+abbrev pub StandsAt : ℕ → ℕ → EntryValue → Type 0
 StandsAt n before e = (e.line ≡ n) × (e.before ≡ before)
 
 stands_at : (kind : EntryKind) (n before : ℕ) (d : Data) → OkHas (StandsAt n before) (entry_of kind n before d)
@@ -103,7 +103,7 @@ stands_at kind n before d =
     (λ version. passes _ (goal_of text) _
     (λ goal. passes _ (token_of zookie) _ (λ token. (refl, refl))))))))
 
-fits_entry : (n before : ℕ) (t : TraceValue) (e : EntryValue) → next_line t ≤ n → StandsAt n before e → OkHas (Fits n) (with_entry t e)
+pub fits_entry : (n before : ℕ) (t : TraceValue) (e : EntryValue) → next_line t ≤ n → StandsAt n before e → OkHas (Fits n) (with_entry t e)
 unfolding with_entry
 fits_entry n before t e le at =
     either_passes (Fits n) (is_declared t.declarations e.goal.set) (recorded t e) _ (

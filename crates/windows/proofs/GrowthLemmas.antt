@@ -302,6 +302,20 @@ fits_line n s line le =
     either_passes (Fits (n + 1)) (is_blank line) (Ok s) _ (omega (arith, le))
     (either_passes (Fits (n + 1)) (is_utf8 line) _ (Err causes.NotJson) (fits_json n s (read line) le) tt)
 
+at_fits : (m n : ℕ) (r : Result TraceValue Cause) → OkHas (Fits m) r → OkHas (Fits m) (at_line n r)
+at_fits m n (Ok s) h = h
+at_fits m n (Err c) h = tt
+
+-- what lines make fits a further line behind them
+pub lines_fit : (m n room : ℕ) (s : TraceValue) (lines : List (List ℕ)) → n + length lines ≤ m → Fits n s
+    → OkHas (Fits m) (read_from takes true n room s lines)
+lines_fit m n room s [] last le = omega (arith, last, le)
+lines_fit m n room s (line ∷ lines) last le =
+    either_passes (Fits m) (passes_limit room line (not (length lines == 0))) _ _ tt
+    (passes_with (Fits (n + 1)) (Fits m) (at_line n (takes n s line)) _
+    (at_fits (n + 1) n (takes n s line) (fits_line n s line le))
+    (λ t next. lines_fit m (n + 1) (room - (length line + 1)) t lines (omega (arith, last)) next))
+
 -- what the first of some lines make, where all make t
 record HasFirst (n room : ℕ) (s : TraceValue) (xs ys : List (List ℕ)) (t : TraceValue) : Type 0 where
   pub u : TraceValue
@@ -407,7 +421,7 @@ begins a b t h =
       subst (λ (k : ℕ). GoesOn k first.0 t) (let z : 0 + length (parts a) ≡ length (parts a) = omega arith in z) first.2,
     )
 
-blank_line : (n room : ℕ) (s : TraceValue) → read_from takes true n room s ([] ∷ []) ≡ Ok s
+pub blank_line : (n room : ℕ) (s : TraceValue) → read_from takes true n room s ([] ∷ []) ≡ Ok s
 blank_line n room s = rw (no_limit room) refl
 
 -- no bytes say the empty trace, and all that bytes say goes on from it

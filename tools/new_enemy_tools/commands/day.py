@@ -25,24 +25,23 @@ from typing import Callable, NamedTuple, Optional
 
 from new_enemy_tools.collecting import held_off
 from new_enemy_tools.commands import import_logs
-from new_enemy_tools.commands.running import Parser, add_skew
-from new_enemy_tools.commands.window import FAULTS, add_auditing, add_keeping, keep_of, places, refuse_usage, status_of
+from new_enemy_tools.commands.running import Parser, add_allowing, add_program, add_skew
+from new_enemy_tools.commands.window import FAULTS, add_keeping, keep_of, places, refuse_usage, status_of
 from new_enemy_tools.coverage import Coverage
 from new_enemy_tools.files import write_whole
 from new_enemy_tools.ids import Ids
 from new_enemy_tools.importing.chained import end_of, head_of
 from new_enemy_tools.importing.going_on import cut, read_left, write_left
+from new_enemy_tools.importing.packed import Version
 from new_enemy_tools.labels import Labels
 from new_enemy_tools.progress import Progress
 from new_enemy_tools.shown import tell as tell_line
-from new_enemy_tools.windowing.audited_window import Audited, audited, audited_so_far, parts_needed, state_before, write_next
-from new_enemy_tools.windowing.auditing import How
-from new_enemy_tools.windowing.carrying import version_of
+from new_enemy_tools.windowing.audited_window import Audited, audited
+from new_enemy_tools.windowing.beginning import begun, version_of
 from new_enemy_tools.windowing.days import COMPARED, INDEX, JOINED_LOG, MAIL, PAGE, Days, Summary, compared, digest_of
-from new_enemy_tools.windowing.following import Following
 from new_enemy_tools.windowing.keeping import keep_trace
-from new_enemy_tools.windowing.state import State
-from new_enemy_tools.windowing.window_bytes import Own
+from new_enemy_tools.windowing.own_lines import Own
+from new_enemy_tools.windowing.state import CARRY, NOTHING, State, read_state, write_beside
 from new_enemy_tools.windowing.window_effects import labels_at, texts_of
 from new_enemy_tools.windowing.window_faults import WindowFault
 
@@ -63,14 +62,17 @@ def given_of(words: list[str]) -> Namespace:
     parser.add_argument("--ended", action="append", default=[], metavar="LOG", help="of joined logs one whose recorder has ended for good, so "
                         "that nothing waits for it")
     add_skew(parser)
-    add_auditing(parser)
+    add_program(parser)
+    add_allowing(parser)
     add_keeping(parser)
+    parser.add_argument("--jobs", type=int, default=os.cpu_count(), metavar="N", help="how many processes read the logs (one a core)")
     parser.add_argument("folder", metavar="FOLDER", help="the folder of the days")
     parser.add_argument("service", choices=("events", "spicedb", "trace"), help="what the logs are of")
     parser.add_argument("words", nargs=argparse.REMAINDER, metavar="..", help="the other words of `ne import`, or TRACE")
     given = parser.parse_args(words)
-    given.out = None
     refuse_usage(parser, given)
+    if given.jobs < 1:
+        parser.error("--jobs is below 1")
     if given.at_least < 0:
         parser.error("--at-least is below 0")
     if given.keep_days < 0:
@@ -132,21 +134,24 @@ def leave_out(days: Days, given: Namespace) -> None:
 
 def go_on(days: Days, given: Namespace) -> import_logs.Before:
     """What the day goes on from, as far as later days need it; the table of ids stands in the folder to work in."""
-    state = state_before(days.before("state"))
-    days.refuse_other(state.head)
+    folder = days.last_folder
+    state = NOTHING if folder is None else read_state(folder)
+    days.refuse_other(state)
+    # The import knows of the versions that the program knows.
+    state = begun(state, {}, keep_of(given))
     ids, path = days.before("ids.jsonl"), days.before("left")
     if ids is not None:
         shutil.copyfile(ids, days.work("ids.jsonl"))
     if path is None and days.before("import.txt") is not None:
         raise WindowFault("the file `left` of day %d is not there, and without it nothing goes on from that day" % (days.last or 0))
     table = Ids(days.work("ids.jsonl"))
-    left = None if path is None else cut(read_left(path), state.head.base, given.keep_versions, carrying(state, table, given.keep_versions))
-    return import_logs.Before(left, state, table, Following(state, How(given.program, given.jobs, given.parts or 1)))
+    left = None if path is None else cut(read_left(path), state.base, given.keep_versions, carrying(state, table, given.keep_versions))
+    return import_logs.Before(left, state, table)
 
 
-def carrying(state: State, table: Ids, kept: Optional[int]) -> Callable[[list[str]], bool]:
+def carrying(state: State, table: Ids, kept: Optional[int]) -> Callable[[Version], bool]:
     """Whether a state carries a version, by the names of the service. Where versions are let go, one that a waiting check names is not."""
-    versions = {version_of(row.raw) for row in state.rows if row.kind == "v"} if kept is not None else set()
+    versions = {version_of(row.raw) for row in state.rows_of("v")} if kept is not None else set()
     return lambda key: ("%s:%s" % (table.name("namespace", key[0]), table.object(key[0], key[1])), table.version(key[2])) in versions
 
 
@@ -188,30 +193,23 @@ def traced(days: Days, given: Namespace, before: import_logs.Before) -> Traced:
 
 def audited_day(days: Days, given: Namespace, before: import_logs.Before, progress: Progress) -> tuple[Own, Audited]:
     trace = traced(days, given, before)
-    own = Own(trace.path, before.state, False)
-    how, step = How(given.program, given.jobs, parts_needed(own, before.state, given.parts)), progress.steps("read %s bytes")
-    if trace.coverage is None:
-        return own, audited(own, before.state, None, how, keep_of(given), False, step)
-    return own, audited_so_far(before.following, own, trace.coverage, how, keep_of(given), step)
+    own = Own(trace.path)
+    return own, audited(own, before.state, given.program, keep_of(given), days.work(CARRY), False, progress.steps("read %s bytes"), trace.coverage)
 
 
 def made(days: Days, given: Namespace, digest: str, progress: Progress) -> int:
     """Makes the next day; its number."""
     os.makedirs(days.work(), exist_ok=True)
     before = go_on(days, given)
-    try:
-        own, found = audited_day(days, given, before, progress)
-    finally:
-        before.following.stop()
-    if found.window.entries < given.at_least:
-        raise WindowFault("the day has %d checks and content checks, and at least %d are wanted (--at-least)"
-                          % (found.window.entries, given.at_least))
+    own, found = audited_day(days, given, before, progress)
+    if found.entries < given.at_least:
+        raise WindowFault("the day has %d checks and content checks, and at least %d are wanted (--at-least)" % (found.entries, given.at_least))
     return kept(days, given, own, found, before.ids if given.service != "trace" else None, digest)
 
 
 def kept(days: Days, given: Namespace, own: Own, found: Audited, ids: Optional[Ids], digest: str) -> int:
-    """Makes a day of what was found, in the folder that is worked in; its number."""
-    write_next(days.work("state"), found.window, found.carry)
+    """Makes a day of what was found, in the folder that is worked in, where its carry is; its number."""
+    write_beside(days.work(), found.new)
     labels = labels_at(found, own)
     write_reports(days, found, own, ids, labels, given.said)
     if given.html:

@@ -7,7 +7,7 @@ from new_enemy_tools.commands.join import log_of, names_of, read_log, write
 from new_enemy_tools.files import write_whole
 from new_enemy_tools.importing.chained import end_of
 from new_enemy_tools.importing.going_on import read_left
-from new_enemy_tools.recording.days_joined import Before, Taken, Waiting, join_day
+from new_enemy_tools.recording.days_joined import Before, Waiting, join_day, kept
 from new_enemy_tools.recording.log_files import LogFiles
 from new_enemy_tools.recording.sketches import JOINED, Given
 from new_enemy_tools.windowing.days import JOIN, JOINED_LOG, Days
@@ -60,8 +60,7 @@ def joined(days: Days, folders: list[str], ended: set[str], skew: int) -> Joined
 
 def _read(path: str) -> Before:
     with open(path, encoding="utf-8") as file:
-        value = json.load(file)
-    return Before(value["place"], value["changes"], [Taken(*one) for one in value["logs"]])
+        return kept(json.load(file))
 
 
 def _said(waiting: Waiting, late: list[str]) -> list[str]:

@@ -30,24 +30,21 @@ from new_enemy_tools.importing.refusals import Refusals
 from new_enemy_tools.importing.sequence_numbers import Numbers
 from new_enemy_tools.importing.service import Log, ServiceRules
 from new_enemy_tools.importing.spool import Lines
-from new_enemy_tools.importing.writing import Piece, Written
+from new_enemy_tools.importing.writing import Written
 from new_enemy_tools.parting.part_faults import PartsFault
 from new_enemy_tools.pieces import LEAST_BYTES, PiecesWriter
 from new_enemy_tools.progress import Progress
 from new_enemy_tools.shown import tell
 from new_enemy_tools.trace_lines import with_mark
-from new_enemy_tools.windowing.following import Following
 from new_enemy_tools.windowing.state import State, read_state
 
 
 class Before(NamedTuple):
-    """What is known of the days before where it was read already: what the import of the last one left, the state, and the table of ids;
-    and what follows the day's trace as it is written."""
+    """What is known of the days before where it was read already: what the import of the last one left, the state, and the table of ids."""
 
     left: Optional[Left]
     state: State
     ids: Ids
-    following: Following
 
 
 def given_of(words: list[str]) -> tuple[Parser, Namespace]:
@@ -163,25 +160,23 @@ def take_chain(goes_on: GoesOn, chained: Optional[list[str]], refusals: Refusals
         refusals.refuse(chained[-1], 1, "the file is not closed: give it when it is, and then the next day's files can go on from it")
 
 
-def marked(made: Written, refusals: Refusals) -> Iterator[Piece]:
+def marked(made: Written, refusals: Refusals) -> Iterator[bytes]:
     """The lines of a trace, of which the last one says what was left out."""
-    last: Optional[Piece] = None
+    last: Optional[bytes] = None
     for piece in made.chunks:
-        if last is not None and piece.lines:
+        if last is not None and piece:
             yield last
-        last = piece if piece.lines else last
+        last = piece or last
     if last is not None:
-        yield Piece(with_mark(last.lines.rstrip(b"\n"), mark_of(made.coverage(refusals))) + b"\n")
+        yield with_mark(last.rstrip(b"\n"), mark_of(made.coverage(refusals))) + b"\n"
 
 
-def write(given: Namespace, pieces: Iterable[Piece], ids: Ids, refusals: Refusals, following: Optional[Following]) -> PiecesWriter:
+def write(given: Namespace, pieces: Iterable[bytes], ids: Ids, refusals: Refusals) -> PiecesWriter:
     """The trace, in pieces where it is too long for a file, and the new rows of the table; or neither where something is refused meanwhile."""
     writer = PiecesWriter(given.trace, given.piece_bytes)
     try:
         for piece in pieces:
-            writer.write(piece.lines)
-            if following is not None and piece.lines:
-                following.take(piece.lines, piece.seen)
+            writer.write(piece)
         writer.end()
         if not refusals.refused:
             writer.keep(ids.append)
@@ -249,10 +244,9 @@ def imported(given: Namespace, base: Any, before: Optional[Before]) -> Imported:
         goes_on = goes_on_of(given, service, before)
         ids = Ids(given.ids) if before is None else before.ids
         ids.take_for(service)
-        following = None if before is None else before.following
-        core = Core(ids, given.skew, refusals, progress, goes_on, None if following is None else following.look)
+        core = Core(ids, given.skew, refusals, progress, goes_on)
         made = core.trace(gathered(given, base, refusals, progress, goes_on, ids), given.jobs)
-        written = write(given, marked(made, refusals), ids, refusals, following) if made else None
+        written = write(given, marked(made, refusals), ids, refusals) if made else None
         left = core.left()
         if left is not None and not refusals.refused:
             write_left(given.go_on, left._replace(ids=mark_of_file(given.ids)))

@@ -8,8 +8,9 @@ once, as a line of JSON on standard output where no receiver is given, and to ea
 with a count while it goes on. At midnight (--zone), or where the trace has --day-bytes, the run ends: OUT/days has a
 folder for each, as `ne day` makes them.
 
-It ends with status 0 at SIGTERM, and goes on where it was when it is started again, also after a kill. The status is 2
-where something is refused, which is told as an alert too, and 5 where a file or a program can't be used.
+It ends with status 0 at SIGTERM, and goes on where it was when it is started again, also after a kill. The status is 9
+where it could not end within ten seconds and was broken off as by a kill, 2 where something is refused, which is told
+as an alert too, and 5 where a file or a program can't be used.
 """
 import argparse
 import gc

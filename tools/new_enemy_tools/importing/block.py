@@ -9,8 +9,8 @@ from new_enemy_tools.importing.located import BLANK, Block
 from new_enemy_tools.importing.packed import Indexer
 from new_enemy_tools.importing.pairing import Full, Match, Pairing
 from new_enemy_tools.importing.printed import time_of as time_of_epoch
-from new_enemy_tools.importing.shapes import QUOTE, Form, Said, Shape, Shapes, shape_of
-from new_enemy_tools.importing.spool import CALL, Facts, Read, row_of
+from new_enemy_tools.importing.shapes import QUOTE, Form, Said, Shape, Shapes, needed, shape_of
+from new_enemy_tools.importing.spool import CALL, CHECKS, Facts, Read, row_of
 from new_enemy_tools.importing.times import nanoseconds
 
 # So many shapes are known at most, and so many lines are looked at for one.
@@ -30,8 +30,12 @@ class When(NamedTuple):
     time: Optional[int] = None
 
 
-# Other lines of a log are few, and are read in full.
-LEARNT = ("check", "content", "write", CALL)
+# A check or content check that looked somewhere between two states; and what has shapes, since other lines of a log are
+# few, and are read in full.
+BETWEEN = "between"
+# the names of these two states
+SNAPSHOT_BETWEEN, NEWEST_BETWEEN = ("lowest", "highest"), ("newest_lowest", "newest_highest")
+LEARNT = ("check", "content", BETWEEN, "write", CALL)
 
 
 class Usual(NamedTuple):
@@ -50,6 +54,7 @@ class Usual(NamedTuple):
     relation_of: Callable[[Optional[bytes]], Optional[str]] = lambda given: given and given.decode() or None
     # calls that wrote
     call: tuple[Form, ...] = ()
+    between: tuple[Form, ...] = ()
 
 
 class Columns:
@@ -241,9 +246,10 @@ class Reader:
 
     def _take_rows(self, columns: Columns, number: int, shape: Shape, found: re.Match[bytes], time: bytes) -> bool:
         """Takes a line that is no check; False where it has to be read in full."""
-        read = self._content if shape.kind == "content" else self._writes
+        read = {"content": self._content, BETWEEN: self._between}.get(shape.kind, self._writes)
         rows = read(number, shape, found, time)
         if rows:
+            columns.facts.has_between |= shape.kind == BETWEEN
             if shape.sequence:
                 columns.add_sequence(int(found[shape.sequence]), number)
             else:
@@ -261,6 +267,20 @@ class Reader:
         token = None if token == NEWEST else token
         goal = (*(text.decode() for text in found.group(*shape.goal)), None)
         return [("content", self.path, number, goal, reply, snapshot, shown, token, version, None, False, asked, sequence_in(shape, found),
+                 nanoseconds(time.decode()) if time else None, self.path, None, None)]
+
+    def _between(self, number: int, shape: Shape, found: re.Match[bytes], time: bytes) -> list[Row]:
+        """The row of an entry between two states; nothing where it has to be read in full."""
+        said = shape.said(found)
+        is_newest = NEWEST_BETWEEN[0] in said
+        lowest, snapshot = (int(needed(said, name)) for name in (NEWEST_BETWEEN if is_newest else SNAPSHOT_BETWEEN))
+        if lowest > snapshot:
+            return []
+        token, version = said.get("token"), said.get("version")
+        goal = (*(text.decode() for text in found.group(*shape.goal)), None)
+        return [(needed(said, "event").decode(), self.path, number, goal, said["reply"] == b"true", snapshot,
+                 "between %d and %d" % (lowest, snapshot), None if token is None else int(token),
+                 None if version is None else version.decode(), lowest, is_newest, None, sequence_in(shape, found),
                  nanoseconds(time.decode()) if time else None, self.path, None, None)]
 
     def _writes(self, number: int, shape: Shape, found: re.Match[bytes], time: bytes) -> list[Row]:
@@ -290,9 +310,12 @@ class Reader:
         return names if self.usual.takes(*names) else None
 
     def _learn(self, number: int, line: bytes, rows: list[Row]) -> None:
-        """Learns the shape of a line, where it gives what the line was read as."""
-        kind = rows[0][0]
-        if kind not in LEARNT or len(rows) > 1 and {row[0] for row in rows} != {"write"}:
+        """Learns the shape of a line, where it gives what the line was read as; none gives a line of the base state, and
+        these are long."""
+        first = rows[0]
+        kind = BETWEEN if first[0] in CHECKS and first[9] is not None else first[0]
+        is_base = kind == "write" and first[5]
+        if is_base or kind not in LEARNT or len(rows) > 1 and {row[0] for row in rows} != {"write"}:
             return
         self.tried += 1
         shape = next(filter(None, (shape_of(line, form) for form in getattr(self.usual, kind))), None)

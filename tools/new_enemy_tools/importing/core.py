@@ -27,7 +27,7 @@ from new_enemy_tools.importing.spool import BATCH, CHECKS, Facts, Lines
 from new_enemy_tools.importing.strata import Edges, choose, open_circles
 from new_enemy_tools.importing.trace_texts import Shown
 from new_enemy_tools.importing.wildcards import Wildcards
-from new_enemy_tools.importing.writing import Counts, Piece, Written
+from new_enemy_tools.importing.writing import Counts, Written
 from new_enemy_tools.parting.sharing import shared
 from new_enemy_tools.progress import Progress
 from new_enemy_tools.texts import Tuple, Userset, parse_tuple
@@ -35,8 +35,6 @@ from new_enemy_tools.trace_lines import with_mark
 from new_enemy_tools.windowing.state import State
 
 CIRCULAR = "tuple through which a relation takes away what it rests on"
-# By lines of the trace and, where these are known, their snapshots, with -1 for a line of which it is not.
-Look = Callable[[bytes, Optional[list[int]]], Any]
 
 
 class Given(NamedTuple):
@@ -67,12 +65,9 @@ def _kept_in(batch: bytes) -> Union[Kept, list[tuple[Any, ...]]]:
 
 
 class Core:
-    """`look` says what the processes that make lines of the trace are to see there for who takes them."""
-
-    def __init__(self, ids: Ids, skew: Optional[int], refusals: Refusals, progress: Progress, goes_on: Optional[GoesOn] = None,
-                 look: Optional[Look] = None):
+    def __init__(self, ids: Ids, skew: Optional[int], refusals: Refusals, progress: Progress, goes_on: Optional[GoesOn] = None):
         self.ids, self.skew, self.refusals, self.progress = ids, skew, refusals, progress
-        self.goes_on, self.look = goes_on, look
+        self.goes_on = goes_on
         # of the days before how many commits are known, and the first state where not all are
         self.commits_before = 0
         self.oldest: Optional[int] = None
@@ -323,10 +318,10 @@ class Core:
             return None
         return row if entry.kind != "check" or entry.version is None else tuple(self.taken.known(entry, True))
 
-    def _chunks(self, shown: Shown, jobs: int) -> Iterator[Piece]:
+    def _chunks(self, shown: Shown, jobs: int) -> Iterator[bytes]:
         """The lines of the trace. Where none hangs on others, batches of them are made by many processes."""
         head = "".join(shown.head()).encode()
-        yield Piece(head)
+        yield head
         if (head or self._before is not None) and not self.taken.has_between:
             # What the first line says is not for the processes that make the others.
             first, shown.mark = shown.mark, ""
@@ -334,9 +329,9 @@ class Core:
             for piece, counts in shared(partial(self._piece, shown), self._kept(), jobs):
                 self.counts.merge(counts)
                 self.progress.step("wrote %s events", self.counts.count)
-                if first and piece.lines:
-                    line, _, rest = piece.lines.partition(b"\n")
-                    piece, first = Piece(b"%s\n%s" % (with_mark(line, first), rest)), ""
+                if first and piece:
+                    line, _, rest = piece.partition(b"\n")
+                    piece, first = b"%s\n%s" % (with_mark(line, first), rest), ""
                 yield piece
             self.ids.is_closed = False
             return
@@ -344,35 +339,28 @@ class Core:
         self.taken.states.revisions.sort()
         texts = self._texts((row for batch in self._kept() for row in marshal.loads(batch)), shown, self.counts)
         while some := list(islice(texts, BATCH)):
-            yield Piece("".join(some).encode())
+            yield "".join(some).encode()
 
-    def _piece(self, shown: Shown, batch: bytes) -> tuple[Piece, Counts]:
+    def _piece(self, shown: Shown, batch: bytes) -> tuple[bytes, Counts]:
         counts, found = Counts(), _kept_in(batch)
-        if isinstance(found, Kept):
-            texts, snapshots = self._block_texts(found, shown, counts)
-        else:
-            texts, snapshots = list(self._texts(found, shown, counts)), None
-        lines = "".join(texts).encode()
-        return Piece(lines, None if self.look is None else self.look(lines, snapshots)), counts
+        texts = self._block_texts(found, shown, counts) if isinstance(found, Kept) else self._texts(found, shown, counts)
+        return "".join(texts).encode(), counts
 
-    def _block_texts(self, kept: Kept, shown: Shown, counts: Counts) -> tuple[list[str], list[int]]:
-        """The lines of many checks, and of what stands among them; and of each line the snapshot, -1 where it is none of many checks."""
+    def _block_texts(self, kept: Kept, shown: Shown, counts: Counts) -> list[str]:
+        """The lines of many checks, and of what stands among them."""
         checks = kept.checks
-        made, ats, done = shown.checks(checks), shown.snapshots(checks), 0
+        made, done = shown.checks(checks), 0
         counts.has_token |= any(look[3] is not None for look in checks.looks)
         counts.has_named |= any(look[4] is not None for look in checks.looks)
         counts.take_times(checks.times)
         texts: list[str] = []
-        snapshots: list[int] = []
         for at, row in chain(kept.among(self._is_end, self.writer.commit_of), ((len(made), None),)):
             counts.checks += at - done
             texts += made[done:at]
-            snapshots += ats[done:at]
             done = at
             if row:
                 texts += self._lines(row, shown, counts)
-                snapshots += [-1] * (len(texts) - len(snapshots))
-        return texts, snapshots
+        return texts
 
     @staticmethod
     def _lines(row: tuple[Any, ...], shown: Shown, counts: Counts) -> Iterable[str]:

@@ -17,12 +17,13 @@ from new_enemy_tools.importing.between import States
 from new_enemy_tools.importing.declared import Declared
 from new_enemy_tools.importing.events import Event, RelationRule
 from new_enemy_tools.importing.first_pass import Taken
+from new_enemy_tools.importing.packed import Version
 from new_enemy_tools.importing.refusals import Refusals
 from new_enemy_tools.importing.spool import Facts, Lines
 from new_enemy_tools.importing.strata import Edges, Reason
 from new_enemy_tools.rules import places
 from new_enemy_tools.texts import Tuple, Userset, parse_tuple
-from new_enemy_tools.windowing.replacing import touched_by
+from new_enemy_tools.windowing.carries import touched_by
 from new_enemy_tools.windowing.state import State
 
 FORMAT = 1
@@ -41,6 +42,16 @@ class Named(NamedTuple):
     lines: int
 
 
+class Issued(NamedTuple):
+    """A version by its object and label, where its content check stands, what `Taken` keeps of that, and its day."""
+
+    key: Version
+    file: str
+    line: int
+    short: tuple[Any, ...]
+    day: int
+
+
 class Left(NamedTuple):
     """What an import left."""
 
@@ -57,8 +68,7 @@ class Left(NamedTuple):
     last: Optional[int]
     last_place: Optional[list[Any]]
     base: Optional[int]
-    # what Taken keeps of versions, and the day of each
-    issued: list[list[Any]]
+    issued: list[Issued]
     has_gap: bool
     # the number and the hash of the last file of tools/record
     chain: Optional[list[Any]]
@@ -86,7 +96,16 @@ def read_left(path: str) -> Left:
     if value.pop("new_enemy_import") != FORMAT:
         raise GoingOnFault("%s was left by an import of another version" % path)
     left = Left(**value)
-    return left._replace(named=list(starmap(Named, left.named)))
+    return left._replace(named=list(starmap(Named, left.named)), issued=list(_issued_of(left.issued)))
+
+
+def _issued_of(rows: Iterable[Sequence[Any]]) -> Iterator[Issued]:
+    """There may be very many: a text that several have is in memory once."""
+    texts: dict[Optional[str], Any] = {}
+    for (of, thing, label), file, line, (goal, *rest), day in rows:
+        key = texts.setdefault(of, of), texts.setdefault(thing, thing), label
+        short = tuple(texts.setdefault(text, text) for text in goal), *rest
+        yield Issued(key, texts.setdefault(file, file), line, short, day)
 
 
 def refuse_other(left: Left, path: str, service: str) -> None:
@@ -100,14 +119,14 @@ def write_left(path: str, left: Left) -> None:
     write_whole(path, [line, "sum " + blake2b(line.encode(), digest_size=32).hexdigest()])
 
 
-def cut(left: Left, least: Optional[int], days: Optional[int], carries: Callable[[list[str]], bool] = lambda key: False) -> Left:
+def cut(left: Left, least: Optional[int], days: Optional[int], carries: Callable[[Version], bool] = lambda key: False) -> Left:
     """Without versions that were issued before the last days, but for those that the state carries all the same; and without revisions that stand
     below a timestamp, but for those that versions were issued at, and the last below."""
     if days is not None:
-        left = left._replace(issued=[row for row in left.issued if row[4] > left.day - days or carries(row[0])])
+        left = left._replace(issued=[one for one in left.issued if one.day > left.day - days or carries(one.key)])
     if least is None:
         return left
-    kept = {row[3][2] for row in left.issued} | {left.base}
+    kept = {one.short[2] for one in left.issued} | {left.base}
     below = [one for one in left.named if one.at < least]
     return left._replace(named=[one for one in left.named if one.at >= least or one.revision in kept or one is below[-1]])
 
@@ -186,7 +205,7 @@ def has_other_strata(left: Left, strata: dict[Name, int]) -> bool:
 def take_states(states: States, left: Left, state: State) -> Optional[int]:
     """Takes what was stored before the day, for checks between two states; the first revision of which that is known, if not of all."""
     revisions = {one.at - back: one.revision for one in left.named for back in range(one.lines)}
-    base = state.head.base
+    base = state.base
     if base is not None:
         states.revisions.append(revisions[base])
     for row in state.rows:
@@ -211,9 +230,7 @@ def take_up(left: Left, taken: Taken) -> None:
     taken.last, taken.has_gap, taken.may_be_older = left.last, left.has_gap, left.is_older
     taken.twice = {(of, thing, label) for of, thing, label in left.twice}
     taken.last_place = None if left.last_place is None else (left.last_place[0], left.last_place[1], left.last_place[2])
-    for key, file, line, short, _ in left.issued:
-        goal, reply, snapshot, lowest, token = short
-        taken.issued[key[0], key[1], key[2]] = ((tuple(goal), reply, snapshot, lowest, token), file, line)
+    taken.issued.update((one.key, (one.short, one.file, one.line)) for one in left.issued)
 
 
 def numbered(wanted: dict[int, int], before: list[Named]) -> list[Named]:
@@ -265,9 +282,9 @@ def left_by(service: str, before: Optional[Left], declared: Declared, strata: di
         (one.at, {one.name: [[relation.name, relation.rewrite] for relation in one.relations]}) for one in declared.rules.declarations]
     day = 1 + (before.day if before else 0)
     # Those of the days before come first.
-    days = [row[4] for row in before.issued] if before else []
+    days = [one.day for one in before.issued] if before else []
     days += [day] * (len(taken.issued) - len(days))
-    issued = [[list(key), file, line, list(short), one] for (key, (short, file, line)), one in zip(taken.issued.items(), days)]
+    issued = [Issued(key, file, line, short, one) for (key, (short, file, line)), one in zip(taken.issued.items(), days)]
     return Left(service, day, rules, [(*name, stratum) for name, stratum in strata.items()],
                 [[list(edge.reader), list(edge.read), edge.strict] for edge in edges.reasons], named, taken.last,
                 None if taken.last_place is None else list(taken.last_place), taken.base_revision, issued, taken.has_gap, chain,
@@ -276,7 +293,7 @@ def left_by(service: str, before: Optional[Left], declared: Declared, strata: di
 
 def with_left_out(left: Left, refusals: Refusals, taken: Taken) -> Left:
     """The same when all lines are written, with what was left out of them."""
-    return left._replace(issued=[row for row in left.issued if (row[0][0], row[0][1], row[0][2]) in taken.issued],
+    return left._replace(issued=[one for one in left.issued if one.key in taken.issued],
                          left_out=sorted(refusals.versions), has_lost_version=refusals.has_lost_version,
                          doubts=sorted(set(refusals.doubts), key=lambda one: tuple(part or "" for part in one)))
 

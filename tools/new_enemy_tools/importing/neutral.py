@@ -3,7 +3,7 @@ from functools import partial
 from typing import Iterator, Union
 
 from new_enemy_tools.importing import located
-from new_enemy_tools.importing.block import Reader, Usual, When
+from new_enemy_tools.importing.block import NEWEST_BETWEEN, SNAPSHOT_BETWEEN, Reader, Usual, When
 from new_enemy_tools.importing.checks import Look
 from new_enemy_tools.importing.events import Event, Line, read_events
 from new_enemy_tools.importing.packed import Indexer
@@ -26,6 +26,9 @@ STAMP = {"time": field(TIME, "time"), "sequence": field(WHOLE, "sequence")}
 CHECK = form({**_goal("goal", ID), "snapshot": field(WHOLE, "snapshot"), "reply": field(REPLY, "reply"), "token": field(WHOLE, "token"),
               "version": field(LABEL, "version"), **STAMP}, "event")
 CONTENT = Form(CHECK.fields, CHECK.fixed | {("newest",)})
+BETWEEN = form({**_goal("goal", ID), "event": field(b'"(check|content)"', "event"), "reply": field(REPLY, "reply"), "token": field(WHOLE, "token"),
+                "version": field(LABEL, "version"), **STAMP, **{"%s.%d" % (key, place): field(WHOLE, name) for key, names in (
+                    ("snapshot_between", SNAPSHOT_BETWEEN), ("newest_between", NEWEST_BETWEEN)) for place, name in enumerate(names)}})
 RELATION = field(b'"((?!\\*")%s+)"' % TEXT, USER_RELATION)
 WRITE = form({**_goal("add.*", TEXT + b"+"), "add.*.5": RELATION, **_goal("remove.*", TEXT + b"+"), "remove.*.5": RELATION,
               "revision": field(WHOLE, "revision"), **STAMP}, "event", "base")
@@ -41,7 +44,7 @@ def when_of(said: Said) -> When:
     return When(int(revision), revision.decode())
 
 
-USUAL = Usual((CHECK,), (CONTENT,), (WRITE,), look_of, when_of, lambda *_: True)
+USUAL = Usual((CHECK,), (CONTENT,), (WRITE,), look_of, when_of, lambda *_: True, between=(BETWEEN,))
 
 
 class Events:

@@ -13,7 +13,7 @@ SECONDS = len("2024-05-06T07:08:09")
 LONGEST = len("2024-05-06T07:08:09.123456789+00:00")
 
 
-@lru_cache(1 << 16)
+@lru_cache(1 << 12)
 def _of_text(text: str) -> Optional[int]:
     found = FORM.fullmatch(text)
     if not found:

@@ -95,11 +95,6 @@ class Shown:
                 text, = self._looks([(reply, snapshot, shown, demanded, version, None)], checks.file)
                 made[place] = made[place].replace(looks[look], text, 1)
 
-    def snapshots(self, checks: Checks) -> list[int]:
-        """The timestamps at which many checks looked."""
-        ats = [self.times[look[1]] for look in checks.looks]
-        return [ats[look] for look in column(checks.look_of)]
-
     def _looks(self, looks: Iterable[tuple[Any, ...]], file: str) -> list[str]:
         """What stands in the lines of checks from their users to the numbers of the lines that they come from."""
         times, source = self.times, self._file(file)

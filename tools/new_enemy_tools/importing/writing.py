@@ -84,17 +84,10 @@ class Counts:
                 yield "cannot show %s: %s" % (finding, reason)
 
 
-class Piece(NamedTuple):
-    """Lines of a trace, and what the process that made them saw there, if one did."""
-
-    lines: bytes
-    seen: Any = None
-
-
 class Written:
     """The lines of a trace that is being written, many at a time, and what there is to tell of it behind the last."""
 
-    def __init__(self, chunks: Iterator[Piece], counts: Counts, notes: Callable[[], Iterator[str]]):
+    def __init__(self, chunks: Iterator[bytes], counts: Counts, notes: Callable[[], Iterator[str]]):
         self.chunks, self.counts, self.notes = chunks, counts, notes
 
     def coverage(self, refusals: Refusals) -> Coverage:

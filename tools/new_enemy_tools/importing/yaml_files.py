@@ -41,7 +41,8 @@ class Reader:
     def take(self, event: Any) -> None:
         line = event.start_mark.line + 1
         if isinstance(event, yaml.NodeEvent):
-            if isinstance(event, yaml.AliasEvent) or event.anchor is not None or event.tag is not None:
+            node: Any = event
+            if isinstance(event, yaml.AliasEvent) or node.anchor is not None or node.tag is not None:
                 raise _fault(line, "an anchor, an alias or a tag")
             self._put(self._begun(event, line), line)
         elif isinstance(event, yaml.CollectionEndEvent):
@@ -94,7 +95,8 @@ def _events(text: str) -> Iterator[Any]:
     if yaml is None:
         raise Malformed(1, MISSING)
     try:
-        yield from yaml.parse(text, Loader=getattr(yaml, "CSafeLoader", yaml.SafeLoader))
+        parse: Any = yaml.parse
+        yield from parse(text, Loader=getattr(yaml, "CSafeLoader", yaml.SafeLoader))
     except yaml.MarkedYAMLError as fault:
         mark = fault.problem_mark or fault.context_mark
         raise _fault(mark.line + 1 if mark else 1, fault.problem or str(fault)) from None

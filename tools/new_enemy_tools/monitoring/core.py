@@ -78,14 +78,6 @@ class Unjoined(NamedTuple):
     unbegun: tuple[str, ...] = ()
 
 
-class Left(NamedTuple):
-    """What a run leaves to the next beside the import and the state: its stories, and findings on entries that the
-    next run has too."""
-
-    stories: dict[str, Known]
-    held: list[tuple[str, str]]
-
-
 class Core:
     def __init__(self, settings: Settings, rows: Iterable[Row], marks: Mapping[str, int]):
         """`marks` has of each receiver up to which alert it has them."""
@@ -136,12 +128,11 @@ class Core:
         elif text["kind"] in self.passed:
             self.passed[text["kind"]] = text["state"] == "passed"
 
-    def begin(self, run: Run, number: int, left: Left, holding: Holding, now: float) -> None:
-        """Begins a run; or begins it anew, after a monitor that was killed in it."""
+    def begin(self, run: Run, number: int, stories: dict[str, Known], holding: Holding, now: float) -> None:
+        """Begins a run, with the stories of the one before; or begins it anew, after a monitor that was killed in it."""
         self.run, self.number, self.holding, self.counts = run, number, holding, Counter(self.ended)
         self._told = {number: self._told.get(number, {})}
-        self.stories = Stories(self.settings.effects, left.stories, self._told[number], now)
-        self._held = set(left.held)
+        self.stories = Stories(self.settings.effects, stories, self._told[number], now)
 
     # What comes in
 
@@ -190,20 +181,13 @@ class Core:
         """The alerts of what was found."""
         telling = self.run.told(now, is_end)
         if telling is not None:
-            yield from self._taken(self._new(telling), now)
+            yield from self._taken(telling, now)
         yield from self._put(self.stories.again(self.next, self.settings.again, now, is_end))
 
     def _taken(self, telling: Telling, now: float) -> Iterator[Out]:
         for told in telling.told:
             self.counts[told.finding.finding, told.effect.word] += 1
         yield from self._put(self.stories.take(self.run, telling, self.next, self.number, now))
-
-    def _new(self, telling: Telling) -> Telling:
-        """Without findings on entries that were held over, which the run before has told."""
-        if not self._held:
-            return telling
-        return telling._replace(told=[one for one in telling.told
-                                      if (one.entry.source or "", one.finding.finding) not in self._held])
 
     def answered(self, receiver: str, number: int, fault: Optional[str], now: float) -> None:
         self.delivery.answered(receiver, number, fault, now)
@@ -262,16 +246,16 @@ class Core:
             for receiver in self.settings.receivers:
                 self.delivery.put(Send(receiver, alert.number, line_of(alert.text)))
 
-    def leave(self) -> Left:
-        """What the next run knows of this one, when all of it is told."""
+    def leave(self) -> dict[str, Known]:
+        """The stories that the next run knows of this one, when all of it is told."""
         self.ended = Counter(self.counts)
-        return Left(self.stories.leave(), self.run.held())
+        return self.stories.leave()
 
     # What is known
 
     def lag(self, wall: int) -> float:
         """For how many seconds the oldest reply has waited that was read, and is not settled."""
-        times = [time for time in (self.run.oldest, self.holding.oldest, self.unjoined.oldest) if time is not None]
+        times = [time for time in (self.run.since, self.holding.oldest, self.unjoined.oldest) if time is not None]
         return max(0.0, (wall - min(times)) / 1e9) if times else 0.0
 
     def coverage(self) -> Coverage:

@@ -1,25 +1,72 @@
 """The program that follows a trace, as a process: lines in, and what it says as messages."""
 import subprocess
 import tempfile
-from queue import SimpleQueue
+from queue import Queue, SimpleQueue
 from threading import Thread
-from typing import Any, BinaryIO, NamedTuple, cast
+from typing import Any, BinaryIO, NamedTuple, Optional, cast
 
 from new_enemy_tools.faults import DeviceFault
-from new_enemy_tools.windowing.auditing import LinesFeeder
+from new_enemy_tools.windowing.window_faults import WindowFault
+
+# So many pieces of a trace wait at most until the program reads them.
+WAITING = 16
+
+
+class _Feeder:
+    """Writes lines to the program, in a thread of its own."""
+
+    def __init__(self, pipe: BinaryIO):
+        self._pipe = pipe
+        self._fault: Optional[OSError] = None
+        self._waiting: "Queue[Optional[bytes]]" = Queue(WAITING)
+        self._thread = Thread(target=self._write_all, daemon=True)
+        self._thread.start()
+
+    def put(self, lines: bytes) -> None:
+        self._waiting.put(lines)
+
+    def _write_all(self) -> None:
+        """What the program does not read any more is let go."""
+        while (lines := self._waiting.get()) is not None:
+            self._write(lines)
+            if self._waiting.empty():
+                # Who waits for an answer is not to wait for more lines.
+                self._write(b"", True)
+        try:
+            self._pipe.close()
+        except OSError as fault:
+            self._fault = self._fault or fault
+
+    def _write(self, lines: bytes, is_all: bool = False) -> None:
+        if self._fault is None:
+            try:
+                self._pipe.write(lines)
+                if is_all:
+                    self._pipe.flush()
+            except OSError as fault:
+                self._fault = fault
+
+    def end(self) -> None:
+        self.stop()
+        if self._fault is not None and not isinstance(self._fault, BrokenPipeError):
+            raise WindowFault("the lines cannot be given to the program: %s" % self._fault.strerror)
+
+    def stop(self) -> None:
+        self._waiting.put(None)
+        self._thread.join()
 
 
 class Follower:
-    def __init__(self, program: str, inbox: "SimpleQueue[Any]"):
+    def __init__(self, program: str, words: list[str], inbox: "SimpleQueue[Any]"):
         self.program, self.inbox = program, inbox
         self._error = tempfile.TemporaryFile()
         try:
-            self._process = subprocess.Popen([program, "follow", "--heartbeat"], stdin=subprocess.PIPE,
+            self._process = subprocess.Popen([program, "follow", "--heartbeat", *words], stdin=subprocess.PIPE,
                                              stdout=subprocess.PIPE, stderr=self._error)
         except OSError as fault:
             raise DeviceFault("cannot run %s: %s" % (program, fault.strerror)) from None
         assert self._process.stdin is not None
-        self._feeder = LinesFeeder([], cast(BinaryIO, self._process.stdin))
+        self._feeder = _Feeder(cast(BinaryIO, self._process.stdin))
         self._thread = Thread(target=self._read, daemon=True)
         self._thread.start()
 

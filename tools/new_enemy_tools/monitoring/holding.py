@@ -91,8 +91,12 @@ class Holding:
     @property
     def has_room(self) -> bool:
         """Whether more lines may be read: few ahead, and where some are held so many that what they wait for can
-        come."""
-        return self.bytes < (MOST_HELD if self._unknown else MOST)
+        come; the base state has any length."""
+        is_seen = self._seen == self._taken + len(self.lines)
+        if is_seen and not self.is_begun:
+            return True
+        is_held = bool(self._unknown) or is_seen and not self._cuts
+        return self.bytes < (MOST_HELD if is_held else MOST)
 
     @property
     def oldest(self) -> Optional[int]:

@@ -20,7 +20,7 @@ from new_enemy_tools.monitoring.faults import MonitorFault
 from new_enemy_tools.monitoring.holding import WRITE_WAIT
 from new_enemy_tools.monitoring.stream import Chunk
 from new_enemy_tools.monitoring.tail import Place, Tail
-from new_enemy_tools.recording.days_joined import Before, Taken
+from new_enemy_tools.recording.days_joined import Before, kept
 from new_enemy_tools.recording.lines import ENCODE
 from new_enemy_tools.recording.live_joined import LiveJoin
 from new_enemy_tools.recording.log_files import LogFault, LogFiles
@@ -110,8 +110,7 @@ class JoinedLog:
         state = self._state(is_first)
         self.length = (state["number"], state["size"])
         self.files = self._cut()
-        before = Before(state["place"], state["changes"], [Taken(*one) for one in state["logs"]])
-        self.join = LiveJoin(several.folders, several.skew, hold, before, [(one[0], one[1], one[2]) for one in state["told"]])
+        self.join = LiveJoin(several.folders, several.skew, hold, kept(state), [(one[0], one[1], one[2]) for one in state["told"]])
 
     def _state(self, is_first: bool) -> dict[str, Any]:
         if os.path.exists(self.path):

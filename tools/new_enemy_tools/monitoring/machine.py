@@ -22,14 +22,15 @@ from new_enemy_tools.monitoring.live_page import SILENT, Live, live_of, page_of
 from new_enemy_tools.monitoring.marks import Mark
 from new_enemy_tools.monitoring.receivers import Answered, Receiver, Teller
 from new_enemy_tools.monitoring.run import Run
-from new_enemy_tools.monitoring.run_files import RunFile, keep, start_of
+from new_enemy_tools.monitoring.run_files import RunFile, ended, keep, start_of, untold_by, words_of
 from new_enemy_tools.monitoring.stopping import Stopping
 from new_enemy_tools.monitoring.tail import Tail
 from new_enemy_tools.recording.metrics import MetricsServer
 from new_enemy_tools.recording.sketches import JOINED
 from new_enemy_tools.shown import tell
-from new_enemy_tools.windowing import carrying
+from new_enemy_tools.windowing.beginning import Keep as KeepOfPast
 from new_enemy_tools.windowing.days import Days
+from new_enemy_tools.windowing.following import VERDICT
 
 # Between two looks at the log, and at bounds, in seconds.
 POLL, LOOK = 0.02, 1.0
@@ -90,16 +91,16 @@ class Machine:
     def _begin(self, holding: Optional[Holding], stop: Optional[tuple[str, int]] = None) -> None:
         """Begins a run with the lines that are held; without these anew, from where the last one that was kept has
         ended, and up to a line."""
-        start = start_of(self.days, self.way.options)
+        given = self.way.options
+        start = start_of(self.days, given)
         number = 1 + (self.days.last or 0)
         if holding is None:
             self.tail = Tail(self.way.log, start.place)
             holding = Holding(self.way.settings.hold, self.days.last is not None, stop, self.way.settings.zone)
-        self.file = RunFile(self.days.work("trace"), start.begun.state.head.lines)
-        self.follower = Follower(self.way.options.program, self.inbox)
-        self.is_fed = False
-        self.run = Run(start.begun, self._has_between(), self.file.line)
-        self.core.begin(self.run, number, start.left, holding, time.monotonic())
+        self.file = RunFile(self.days.work("trace"), start.begun.state.lines)
+        self.follower, self.held = None, start.held
+        self.run = Run(start.begun, self._has_between(), self.file.line, KeepOfPast(None, given.keep_snapshots, given.keep_versions))
+        self.core.begin(self.run, number, start.stories, holding, time.monotonic())
 
     def _has_between(self) -> bool:
         """Whether checks may have looked at any state between two; of a log that is not there yet that is not known,
@@ -110,10 +111,10 @@ class Machine:
     def _end_run(self, why: str) -> None:
         given, run, now = self.way.options, self.run, time.monotonic()
         assert self.tail is not None and self.follower is not None
-        carry = run.close(carrying.Keep(None, given.keep_snapshots, given.keep_versions))
+        run.close()
         status = self.follower.end()
         self._hear_all()
-        if status not in (0, 1):
+        if status not in VERDICT.values():
             if self.is_stopping:
                 return
             raise MonitorFault("the program refuses the trace: %s" % self.follower.fault())
@@ -121,10 +122,12 @@ class Machine:
         self.journal.sync()
         line = self.core.holding.lines[0] if self.core.holding.lines else None
         place = self.tail.here() if line is None else self.tail.place_at(line.file, line.number)
+        found = ended(self.days, given.program, run, status, self.file)
+        run.end(found)
         self.before = self.before.plus(self.core)
         if self.joined is not None:
             self.joined.keep()
-        number = keep(self.days, given, run, carry, status, self.core.leave(), place, self.file)
+        number = keep(self.days, given, run, found, self.core.leave(), place, self.file)
         self.days.mark_told(number)
         self.tail.forget(place.file)
         if self.joined is not None:
@@ -133,9 +136,13 @@ class Machine:
              sys.stderr)
         self.journal.replace(self.core.kept_rows())
         self.core.holding.stop = None
+        del run, found
+        self._let_go()
         self._begin(self.core.holding)
-        # What the run had goes in circles, and there is much of it.
-        del run, carry
+
+    def _let_go(self) -> None:
+        """Gives back what a run had, before the next one begins: it goes in circles, and there is much of it."""
+        del self.run, self.core.run
         gc.collect()
 
     # What comes in
@@ -204,10 +211,10 @@ class Machine:
         anew: Optional[BeginAnew] = None
         for out in outs:
             if isinstance(out, Feed):
-                assert self.follower is not None
                 self.file.add(out.data)
-                self.follower.feed(out.data if self.is_fed else self.run.front() + out.data)
-                self.is_fed = True
+                if self.follower is None:
+                    self.follower = self._followed()
+                self.follower.feed(out.data)
             elif isinstance(out, Keep):
                 self.journal.add(out.row)
             elif isinstance(out, EndRun):
@@ -219,9 +226,17 @@ class Machine:
                 self.tellers[out.receiver].put(out)
         if anew is not None and self.follower is not None:
             self.follower.stop()
+            self._let_go()
             self._begin(None, anew.stop)
         elif ended is not None:
             self._end_run(ended.why)
+
+    def _followed(self) -> Follower:
+        """The program on the run's lines, the first of which are there."""
+        program = self.way.options.program
+        for finding in untold_by(program, self.run, self.held):
+            self.run.found(finding, time.monotonic())
+        return Follower(program, words_of(self.days, self.run), self.inbox)
 
     def _look(self, now: float, is_more: bool) -> None:
         self.is_caught_up |= not is_more and not self.core.holding.lines

@@ -2,9 +2,10 @@
 says in, findings with their effects out. It has no file, process or clock."""
 import re
 from collections import Counter, deque
+from hashlib import blake2b
 from typing import Callable, NamedTuple, Optional
 
-from new_enemy_tools.coverage import NO_LINES, Coverage, lines_in
+from new_enemy_tools.coverage import NO_LINES, Coverage, Lines, lines_in
 from new_enemy_tools.effects import RatedFinding
 from new_enemy_tools.entries import Commit
 from new_enemy_tools.findings import ON_TOKENS, Finding, Report, finding_of
@@ -20,16 +21,15 @@ from new_enemy_tools.names import Names
 from new_enemy_tools.telling import Telling, telling_of, told_of
 from new_enemy_tools.token_order import ignored
 from new_enemy_tools.trace import Refusal, Trace
-from new_enemy_tools.trace_lines import CHECK_START, CONTENT_START, is_utf8
-from new_enemy_tools.windowing.audited_window import OwnCounts, refuse_twice
-from new_enemy_tools.windowing.carrying import Carry, Keep, Window, carried
-from new_enemy_tools.windowing.scanning import scan
-from new_enemy_tools.windowing.state import Row, State
-from new_enemy_tools.windowing.window_bytes import Numbers, carried_lines, strata_in, with_strata
-from new_enemy_tools.windowing.window_report import text_of
+from new_enemy_tools.trace_lines import CHECK_START, CONTENT_START, is_utf8, may_issue, snapshots_in
+from new_enemy_tools.windowing.audited_window import Audited
+from new_enemy_tools.windowing.beginning import Keep, begun, oldest_of
+from new_enemy_tools.windowing.following import BELOW, SUM, Told, told_by
+from new_enemy_tools.windowing.own_lines import strata_in
+from new_enemy_tools.windowing.state import State
 
 THROUGH = re.compile(r"through line ([0-9]+): ([0-9]+) entries, ([0-9]+) findings, ([0-9]+) open")
-LAST = re.compile(r"(?:entries|findings|verdict) .*")
+VERDICT = re.compile(r"verdict .*")
 # A finding waits so long for the commits that its effect hangs on.
 EFFECT_WAIT = 10.0
 
@@ -51,6 +51,13 @@ class Through(NamedTuple):
     open: int
 
 
+class OwnCounts(NamedTuple):
+    """What the own lines of a run say of themselves."""
+
+    lines: Lines
+    labels: Labels
+
+
 class Piece(NamedTuple):
     """Lines that were taken together: the last line of the trace that is an entry of them, and when their first and
     last reply were given."""
@@ -62,7 +69,7 @@ class Piece(NamedTuple):
 
 def held_over(state: State) -> list[Piece]:
     """The checks that no run before has settled."""
-    found = [Piece(row.line, at, at) for row in state.rows if row.kind == "h" and (at := time_of(row.raw)) is not None]
+    found = [Piece(row.line, at, at) for row in state.waiting if (at := time_of(row.raw)) is not None]
     return sorted(found)
 
 
@@ -74,12 +81,14 @@ class Waiting(NamedTuple):
 class Run:
     """`line_of` gives a line of the run's own trace by its number in the log, when the run has given it out."""
 
-    def __init__(self, begun: Begun, has_between: bool, line_of: Callable[[int], bytes]):
-        self.begun, self.line_of = begun, line_of
+    def __init__(self, begun: Begun, has_between: bool, line_of: Callable[[int], bytes], keep: Keep):
+        self.begun, self.line_of, self.keep = begun, line_of, keep
         self.stream = Stream(begun.ids, begun.left, begun.state, has_between)
-        self.window = Window(begun.state)
-        self.carried: list[Row] = []
-        self.numbers = Numbers([], 0)
+        # what the program begins with
+        self.state = begun.state
+        # how many lines the log has
+        self.lines = begun.state.lines
+        self.digest = blake2b(digest_size=16)
         self.trace = Trace()
         self.names = Names(begun.ids)
         self.through = Through(0, 0, 0)
@@ -93,11 +102,12 @@ class Run:
         self._waiting: list[Waiting] = []
         self._is_fed = False
         self._known = 0
-        # what the program said of the window: its findings in order, and the lines behind the last
-        self._output: list[Finding] = []
-        self._sums: list[str] = []
-        self._carry: Optional[Carry] = None
-        self._early = self._let_go = 0
+        # what the program said of the run, but for how far it is
+        self._output: list[str] = []
+        self.is_closed = False
+        self._ended: Optional[Audited] = None
+        # how many entries ask below the base, and name a version that is not known since versions were let go
+        self._low = self._let_go = 0
 
     # Lines of the log
 
@@ -110,35 +120,33 @@ class Run:
             self._begin(text)
         if max(map(len, text.split(b"\n"))) > LINE_BYTES:
             raise MonitorFault("%s:%d: a line becomes one of the trace that is too long" % (chunk.file, chunk.first))
-        before = self.window.lines
+        before = self.lines
         self._see(text)
         self._note_times(chunk, before, text)
         self.bytes += len(text)
         return text
 
-    def front(self) -> bytes:
-        """The lines of the state, before the run's own."""
-        return b"".join(row.raw + b"\n" for row in self.carried)
+    @property
+    def oldest(self) -> int:
+        """Up to where the base of the next run moves at most."""
+        first = self.trace.commits.ats[0] if self.begun.state.carry is None and self.trace.commits else 0
+        return max(first, oldest_of(self.begun.state, self.keep, False))
 
     def _begin(self, text: bytes) -> None:
         self._is_fed = True
-        old = with_strata(self.begun.state, strata_in(text[:text.find(b"\n") + 1]))
-        self.window, self.carried = Window(old), carried_lines(old.rows)
-        self.numbers = Numbers(self.carried, old.head.lines)
-        self._known = sum(row.kind == "v" for row in self.carried)
-        for row in sorted(self.carried, key=lambda row: row.line):
+        self.state = begun(self.begun.state, strata_in(text[:text.find(b"\n") + 1]), self.keep)
+        self._known = sum(1 for _ in self.state.rows_of("v"))
+        for row in self.state.rows:
             self._keep(row.line, row.raw)
 
     def _see(self, text: bytes) -> None:
-        before, window = self.window.lines + 1, self.window
-        window.take_bytes(text)
+        self.digest.update(text)
         self.counts = OwnCounts(self.counts.lines.plus(lines_in(text)), self.counts.labels.plus(labels_in(text)))
-        scanned = scan(window.old.head.base, window.old.head.last, text)
-        window.take(scanned)
-        if window.bad:
-            raise MonitorFault("trace line %d: %s" % window.bad)
-        for number, _, raw in sorted(scanned.rules + scanned.commits + scanned.issued):
-            self._keep(before + number, raw)
+        if self.state.base is not None:
+            self._low += sum(snapshot < self.state.base for snapshot in snapshots_in(text))
+        for self.lines, raw in enumerate(text.split(b"\n")[:-1], self.lines + 1):
+            if not raw.startswith(CHECK_START) and (not raw.startswith(CONTENT_START) or may_issue(raw)):
+                self._keep(self.lines, raw)
 
     def _keep(self, line: int, raw: bytes) -> None:
         try:
@@ -158,7 +166,7 @@ class Run:
             self.newest = max(self.newest or 0, times[-1])
 
     @property
-    def oldest(self) -> Optional[int]:
+    def since(self) -> Optional[int]:
         """When the first reply was given of those that are not settled."""
         return self._pieces[0].first if self._pieces else None
 
@@ -169,35 +177,25 @@ class Run:
         through = THROUGH.fullmatch(text)
         if through is not None:
             line, entries, is_open = int(through[1]), int(through[2]), int(through[4])
-            # The content checks that a state has were settled in the runs before.
-            self._settle(Through(self.numbers.of(line) if line else 0, max(0, entries - self._known), is_open))
-        elif LAST.fullmatch(text) is not None:
-            self._sums.append(text)
-        else:
+            # The content checks that a carry has were settled in the runs before.
+            self._settle(Through(line, max(0, entries - self._known), is_open))
+            return
+        self._output.append(text)
+        if not any(one.fullmatch(text) for one in (SUM, VERDICT, BELOW)):
             finding = finding_of(text)
             if finding is None:
-                raise MonitorFault("the program said %r, which is no line of a report" % text[:200])
-            self._output.append(finding)
-            self._found(finding, now)
+                raise MonitorFault("the program said %r, which is no line of a run" % text[:200])
+            self.found(finding, now)
 
     def _settle(self, through: Through) -> None:
         self.through = through
         while self._pieces and self._pieces[0].line <= through.line:
             self._pieces.popleft()
 
-    def _found(self, found: Finding, now: float) -> None:
-        if not any(found.line in some for some in self.numbers.told()):
-            return
-        finding = found._replace(line=self.numbers.of(found.line),
-                                 related=None if found.related is None else self.numbers.of(found.related))
-        # Such an entry is counted as not audited, or as audited in part, and has no finding.
-        if finding.line in self.window.low:
-            return
-        if finding.finding == "F6" and self.window.old.head.has_dropped:
+    def found(self, finding: Finding, now: float) -> None:
+        # Such an entry is counted as audited in part.
+        if finding.finding == "F6" and self.state.head.may_lack_version(finding.line):
             self._let_go += 1
-            return
-        # What no commit settled is told with the next run.
-        if self._carry is not None and (finding.line in self._carry.held or finding.line in self._carry.given_up):
             return
         self.findings += 1
         self._waiting.append(Waiting(finding, now + EFFECT_WAIT))
@@ -241,41 +239,31 @@ class Run:
     def coverage(self) -> Coverage:
         """What of the lines so far was looked at: by the import, and of what it placed by the state that the run
         began with."""
-        struck = +Counter({causes.SNAPSHOT_TOO_OLD: len(self.window.low)})
+        struck = +Counter({causes.SNAPSHOT_TOO_OLD: self._low})
         in_part = {causes.VERSION_LET_GO: self._let_go} if self._let_go else {}
         return self.stream.coverage().plus(Coverage(0, in_part)).without(struck)
 
     # The end
 
-    def close(self, keep: Keep) -> Carry:
-        """Ends the run's lines; what the program says then is of entries that no commit settled."""
-        refuse_twice(self.window)
-        self._carry, self._early = carried(self.window, keep, {}), len(self._output)
-        return self._carry
+    def close(self) -> None:
+        """Ends the run's lines."""
+        self.is_closed = True
+
+    def told_all(self, status: int) -> Told:
+        """What the program told, when it has ended with a status."""
+        return told_by("\n".join(self._output), status)
+
+    def end(self, found: Audited) -> None:
+        """Takes what the run comes to."""
+        self._ended = found
 
     @property
     def entries(self) -> int:
         """How many entries are audited and settled, up to the first that is not; at the end of the run all that the
         next one does not have."""
-        if self._carry is None:
+        if self._ended is None:
             return self.through.entries
-        waited = sum(row.kind == "h" for row in self.carried)
-        return self.window.entries + waited - len(self._carry.held) - len(self._carry.given_up) - len(self.window.low)
-
-    @property
-    def is_closed(self) -> bool:
-        return self._carry is not None
-
-    def held(self) -> list[tuple[str, str]]:
-        """Of entries that the next run has too what was found before the end, by where these stand in the log."""
-        assert self._carry is not None
-        found = [(self.numbers.of(one.line), one.finding) for one in self._output[:self._early]]
-        return [(self.trace.entries[line].source or "", finding) for line, finding in found if line in self._carry.held]
-
-    def report(self) -> str:
-        """What the program said, as the report of an audit."""
-        listed = sorted(self._output, key=lambda one: (one.line, int(one.finding[1:])))
-        return "".join(text + "\n" for text in [*map(text_of, listed), *self._sums])
+        return self._ended.report.entries - len(self._ended.report.not_audited)
 
     @property
     def waiting(self) -> int:

@@ -1,6 +1,6 @@
 """The runs of a monitor on the disk: what one begins with, its trace while it goes on, and its day when it has ended.
 
-Here alone stands how a run begins where another ended: with the lines of a state, as `ne day` and `ne window` make it.
+Here alone stands how a run begins where another ended: with its carry, as those of `ne day` and `ne window` do.
 """
 import json
 import os
@@ -10,29 +10,33 @@ from typing import BinaryIO, NamedTuple, Optional
 
 from new_enemy_tools.commands.day import go_on, kept
 from new_enemy_tools.coverage import mark_of
-from new_enemy_tools.files import write_whole
+from new_enemy_tools.files import read_bytes, write_whole
+from new_enemy_tools.findings import Finding
 from new_enemy_tools.ids import mark_of_file
 from new_enemy_tools.importing.going_on import write_left
 from new_enemy_tools.monitoring.alerts import Known
-from new_enemy_tools.monitoring.core import Left
 from new_enemy_tools.monitoring.faults import MonitorFault
 from new_enemy_tools.monitoring.run import Begun, Run
 from new_enemy_tools.monitoring.tail import Place
-from new_enemy_tools.parting.merging import Answer
 from new_enemy_tools.trace_lines import with_mark
-from new_enemy_tools.windowing.audited_window import Audited
-from new_enemy_tools.windowing.carrying import Carry
+from new_enemy_tools.windowing.audited_window import Audited, state_behind, window_of
 from new_enemy_tools.windowing.days import MONITORED, Days
-from new_enemy_tools.windowing.window_bytes import Own
-from new_enemy_tools.windowing.window_report import window_report_of
+from new_enemy_tools.windowing.following import untold
+from new_enemy_tools.windowing.own_lines import Own
+from new_enemy_tools.windowing.state import CARRY
+
+# The carry that a run begins with, in the folder that is worked in.
+BEGUN = "begun"
 
 
 class Start(NamedTuple):
     """What a run begins with, and where in the log."""
 
     begun: Begun
-    left: Left
+    stories: dict[str, Known]
     place: Place
+    # What a run of an earlier version had told of entries that this one has too, by where these stand in the log.
+    held: set[tuple[str, str]]
 
 
 class RunFile:
@@ -76,33 +80,52 @@ def start_of(days: Days, given: Namespace) -> Start:
     begun = Begun(before.left, before.state, before.ids)
     if path is None:
         begun.ids.take_for("events")
-        return Start(begun, Left({}, []), Place())
+        return Start(begun, {}, Place(), set())
     with open(path, encoding="utf-8") as file:
         value = json.load(file)
-    stories = {key: Known(*one) for key, one in value["stories"].items()}
-    return Start(begun, Left(stories, [(source, finding) for source, finding in value["held"]]), Place(*value["place"]))
+    held = {(source, finding) for source, finding in value.get("held", ())}
+    return Start(begun, {key: Known(*one) for key, one in value["stories"].items()}, Place(*value["place"]), held)
 
 
-def keep(days: Days, given: Namespace, run: Run, carry: Carry, status: int, left: Left, place: Place,
-         file: RunFile) -> int:
-    """Makes a day of a run that has ended; its number."""
+def words_of(days: Days, run: Run) -> list[str]:
+    """The words by which the program follows a run: from the carry that it begins with, which is written, to its own."""
+    words = ["--carry", days.work(CARRY), "--oldest-snapshot", str(run.oldest)]
+    if run.state.carry is None:
+        return words
+    with open(days.work(BEGUN), "wb") as file:
+        file.write(run.state.carry.data)
+    return ["--from", days.work(BEGUN), *words]
+
+
+def untold_by(program: str, run: Run, held: set[tuple[str, str]]) -> list[Finding]:
+    """Behind a run of an earlier version what it had not told of entries that this one has too."""
+    return [one for one in untold(program, run.state).findings if (run.trace.entries[one.line].source or "", one.finding) not in held]
+
+
+def ended(days: Days, program: str, run: Run, status: int, file: RunFile) -> Audited:
+    """What a run comes to whose program has ended."""
     coverage = run.stream.coverage()
     file.end(mark_of(coverage))
-    told = window_report_of(run.window, carry, run.numbers, Answer(status, run.report(), ""))
-    own = Own(file.path, run.begun.state, False)
-    found = Audited(told, run.window, carry, run.carried, run.counts).covered(own, coverage)
+    own, told = Own(file.path), run.told_all(status)
+    new, given_up = state_behind(own, run.state, read_bytes(days.work(CARRY)), run.keep)
+    return window_of(own, run.state, new, untold(program, run.state).plus(told), given_up, True, coverage)
+
+
+def keep(days: Days, given: Namespace, run: Run, found: Audited, stories: dict[str, Known], place: Place, file: RunFile) -> int:
+    """Makes a day of a run that has ended; its number."""
     write_whole(days.work("import.txt"), list(run.stream.told()))
     run.begun.ids.append()
     write_left(days.work("left"), run.stream.leave()._replace(ids=mark_of_file(days.work("ids.jsonl"))))
-    stories = {key: list(one) for key, one in left.stories.items()}
-    write_whole(days.work(MONITORED), [json.dumps({"place": list(place), "stories": stories, "held": left.held})])
-    return kept(days, given, own, found, run.begun.ids, run.window.digest.hexdigest())
+    write_whole(days.work(MONITORED), [json.dumps({"place": list(place), "stories": {key: list(one) for key, one in stories.items()}})])
+    if os.path.exists(days.work(BEGUN)):
+        os.remove(days.work(BEGUN))
+    return kept(days, given, Own(file.path), found, run.begun.ids, run.digest.hexdigest())
 
 
 def options(folder: str, program: str, names: list[str], html: bool, keep_days: int, allow: float, snapshots: int,
             versions: Optional[int]) -> Namespace:
     """As `ne day` has its words."""
-    return Namespace(folder=folder, program=program, jobs=1, parts=1, names=names, html=html, keep_days=keep_days,
+    return Namespace(folder=folder, program=program, jobs=1, names=names, html=html, keep_days=keep_days,
                      allow_unaudited=allow,
                      keep_snapshots=snapshots, keep_versions=versions, oldest_snapshot=None, held_back=0, said=[],
                      service="events")

@@ -8,12 +8,14 @@ from typing import Callable
 
 # So long it may take to end in order, in seconds.
 GRACE = 10.0
+# How it ends where it takes longer: a status of no other end of a tool.
+BROKEN_OFF_STATUS = 9
 BROKEN_OFF = b"monitor: what it did would have taken too long, and was broken off; the next monitor does it anew\n"
 
 
 class Stopping:
     """`told` is called when a signal comes. Where the process still runs GRACE later it ends as by a kill, behind which
-    the next one loses nothing; `broken_off` is called before."""
+    the next one loses nothing, and with a status of its own; `broken_off` is called before."""
 
     def __init__(self, told: Callable[[], None], broken_off: Callable[[], None]):
         self._broken_off = broken_off
@@ -32,4 +34,4 @@ class Stopping:
         if select.select([], [2], [], 0)[1]:
             os.write(2, BROKEN_OFF)
         self._broken_off()
-        os._exit(0)
+        os._exit(BROKEN_OFF_STATUS)

@@ -90,8 +90,7 @@ class Stream(Core):
         # what reads a file, and learns the usual forms of its lines
         self._events: Optional[Events] = None
         # what the runs before know of versions, and whether they may lack some
-        self._before_issued: set[tuple[str, str, str]] = set() if before is None else {(row[0][0], row[0][1],
-            row[0][2]) for row in before.issued}
+        self._before_issued = set() if before is None else {one.key for one in before.issued}
         self._is_unknown_before = before is not None and (before.is_older or before.has_gap or before.has_lost_version)
 
     def take(self, chunk: Chunk) -> bytes:
@@ -197,7 +196,7 @@ class Stream(Core):
             for batch in self._kept():
                 piece, counts = self._piece(shown, batch)
                 self.counts.merge(counts)
-                yield piece.lines
+                yield piece
             return
         rules = list(shown.declarations(self.declared))
         self.taken.states.take_rules(rules[self._rules:])

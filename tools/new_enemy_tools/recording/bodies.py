@@ -25,12 +25,19 @@ UNHEARD = Unheard()
 
 
 _other = lru_cache(256)(spelled)
+# Names of answers that decide, which some clients take in capital and in small letters alike.
+DECIDING = frozenset(("allowed", "result", "objects", "object", "users", "error", "permissionship", "checkedAt", "checked_at", "pairs", "item",
+                      "lookedUpAt", "looked_up_at", "resourceObjectId", "resource_object_id", "subject", "subjectObjectId", "subject_object_id"))
+LETTERS = frozenset(name.casefold() for name in DECIDING)
 
 
 def _once(pairs: list[tuple[str, Any]]) -> dict[str, Any]:
     found = dict(pairs)
     if len(found) < len(pairs):
         raise Bad("a name that stands twice in an object of JSON")
+    for name in found:
+        if name not in DECIDING and name.casefold() in LETTERS:
+            raise Bad("a name that stands in other letters in an object of JSON")
     return found
 
 

@@ -104,11 +104,11 @@ class Gaps:
         self.open[reason] = Lost(start, end, amount, reason) if before is None else Lost(
             min(before.start, start), max(before.end, end), before.amount + amount, reason)
 
-    def take(self) -> int:
-        """How much was lost, which is then told."""
-        lost = sum(one.amount for one in self.open.values())
+    def take(self) -> tuple[int, int]:
+        """How much was lost, which is then told, and since when."""
+        lost, since = sum(one.amount for one in self.open.values()), min((one.start for one in self.open.values()), default=FOREVER)
         self.open.clear()
-        return lost
+        return lost, since
 
     def lines(self, now: Now, at_once: bool) -> bytes:
         if not self.open or not at_once and self.told is not None and now.clock - self.told < TOGETHER:
@@ -236,20 +236,23 @@ class Core:
         elif message.response is None:
             self.forget(message.number)
             self.lose("an answer broke off, or was too long to be kept", message.begun)
+        elif message.request is None and message.strange is not None:
+            self.forget(message.number)
+            self.lose(message.strange, message.begun)
         else:
             self.held[message.number] = asked
             self.tried(message, partial(self.service.end, message, asked, self))
 
     def begin_log(self, message: Begun) -> None:
         """The log goes on: the time before it is a gap, but for a log that begins with an empty store."""
-        lost = self.gaps.take()
-        gap = b"" if self.is_first and message.is_empty and not lost else self._gap_before(lost)
+        lost, first = self.gaps.take()
+        gap = b"" if self.is_first and message.is_empty and not lost else self._gap_before(lost, first)
         self.first = chain([gap], message.data, [place_line(message.place)])
         self.place, self.is_ready = message.place, True
         self.say("recording")
 
-    def _gap_before(self, lost: int) -> bytes:
-        """The gap up to now, of a log that goes on or begins."""
+    def _gap_before(self, lost: int, first: int) -> bytes:
+        """The gap up to now, of a log that goes on or begins. What was lost may have been asked before the recorder that had the folder ended."""
         back = self._back()
         until = self.now.wall + back
         if self.left is None:
@@ -257,7 +260,7 @@ class Core:
         since = nanoseconds(self.left.time)
         if since is None or since > until:
             return gap_line(None, max(since or 0, until), "the recorder did not run", lost)
-        return gap_line(since - back, until, "the recorder did not run", lost)
+        return gap_line(min(since - back, first), until, "the recorder did not run", lost)
 
     # What a service puts into the log
 
@@ -268,6 +271,11 @@ class Core:
         """Something is not recorded, since a time or now."""
         self._add_gap(reason, since or self.now.wall, self.now.wall, count)
         self._say_gaps(False)
+
+    def miss(self, reason: str, start: int, end: int, count: int) -> None:
+        """Something was not recorded here, from and to a time, and is told at once."""
+        self._add_gap(reason, start, end, count)
+        self._say_gaps(True)
 
     def lose_entries(self, which: Callable[[Ready], bool], reason: str) -> None:
         """Some of the entries that wait for their place get none."""
@@ -389,9 +397,9 @@ class Core:
 
     def end_unbegun(self) -> bytes:
         """The recorder ends before the log could begin or go on; what passed is a gap behind what there is of it."""
-        lost = self.gaps.take()
+        lost, first = self.gaps.take()
         if self.left is not None:
-            return self._gap_before(lost)
+            return self._gap_before(lost, first)
         self.say("the log was never begun; requests that passed and stand in no log: %d" % lost)
         return b""
 

@@ -5,8 +5,9 @@ place among the changes that the closed files of each log have passed; a log tha
 """
 import heapq
 from hashlib import sha256
-from typing import Callable, Collection, Iterable, Iterator, NamedTuple, Sequence, TypeVar
+from typing import Any, Callable, Collection, Iterable, Iterator, NamedTuple, Sequence, TypeVar
 
+from new_enemy_tools.importing.events import Relationship
 from new_enemy_tools.importing.times import nanoseconds
 from new_enemy_tools.recording.joining import UNORDERED, Join, Moved, OfPlaces, Placed, beginning_of, by_beginning, lost
 from new_enemy_tools.recording.lines import time_text
@@ -27,11 +28,18 @@ class Taken(NamedTuple):
 
 
 class Before(NamedTuple):
-    """Up to which place the days so far have the changes, the checksum of these, and what they have of each log, in the order of the logs."""
+    """Up to which place the days so far have the changes, the checksum of these, what they have of each log, in the order of the logs, and the
+    tuples of which they say that these do not come by turns."""
 
     place: int = 0
     changes: str = ""
     logs: Sequence[Taken] = ()
+    odd: Sequence[Sequence[Any]] = ()
+
+
+def kept(value: dict[str, Any]) -> Before:
+    """As it was kept in JSON, by older tools without what is odd."""
+    return Before(value["place"], value["changes"], [Taken(*one) for one in value["logs"]], value.get("odd", ()))
 
 
 class Waiting(NamedTuple):
@@ -76,6 +84,7 @@ class DayJoin(Join):
     def __init__(self, given: list[Given], over: set[str], skew: int, before: Before, late: list[Given]):
         self.before = {one.name: one for one in before.logs}
         self.start, self.over, self.late = before.place, over, late
+        self.odd = {Relationship(*one) for one in before.odd}
         super().__init__(given, skew)
         if before.logs and self._sum(self.start) != before.changes:
             raise JoinFault("the logs have other changes, or in another order, than those that the days before were made of; give the same "
@@ -104,7 +113,7 @@ class DayJoin(Join):
         return [of[name] for name in self.before] + by_beginning([one for one in sketches if one.given.name not in self.before])
 
     def _places(self) -> OfPlaces:
-        return OfPlaces(self.sketches, len(self.before), self.start)
+        return OfPlaces(self.sketches, len(self.before), self.start, self.odd)
 
     def _earlier_times(self) -> list[int]:
         return [0] * len(self.sketches)
@@ -221,7 +230,8 @@ class DayJoin(Join):
             if number < self.counts[log]:
                 left.setdefault(log, []).append(number)
         return Before(self.cut, self._sum(self.cut), [
-            Taken(one.name, self.counts[log], left.get(log, []), one.is_over or one.name in self.over) for log, one in enumerate(self.taken)])
+            Taken(one.name, self.counts[log], left.get(log, []), one.is_over or one.name in self.over) for log, one in enumerate(self.taken)],
+            sorted((list(one) for one in self.odd.union(self.way.spine.odd_until(self.cut))), key=repr))
 
     def waiting(self) -> Waiting:
         passed = self._passed()

@@ -89,7 +89,7 @@ def path_of(target: str) -> str:
     a host, or steps that lead back."""
     path = target.split("#")[0].split("?")[0]
     if not path.startswith("/"):
-        path = "/" + path.partition("://")[2].partition("/")[2]
+        path = "/" + (path.partition("://")[2].partition("/")[2] if "://" in path else path)
     return normpath(unquote(path))
 
 
@@ -105,13 +105,15 @@ class Messages:
     """The messages of one side. `begun` is told each head and answers how long its body is, as `Head.length` does; `ended` the body; and
     `raw` each piece of a message as it came, behind its head."""
 
-    def __init__(self, begun: Callable[[Head], Optional[int]], ended: Callable[[Optional[bytes]], None], raw: Raw = lambda data: None):
-        self.begun, self.ended, self.raw = begun, ended, raw
+    def __init__(self, begun: Callable[[Head], Optional[int]], ended: Callable[[Optional[bytes]], None], raw: Raw = lambda data: None,
+                 most: Callable[[], int] = lambda: BODY):
+        self.begun, self.ended, self.raw, self.most = begun, ended, raw, most
         # what has come, and how much of it was cut off: what is left is copied once for all that comes at once
         self.data, self.at = b"", 0
         self.left: Optional[int] = None
         self.body = bytearray()
-        self.is_kept = True
+        # whether bodies are kept, which `begun` may say of each
+        self.is_wanted = self.is_kept = True
         # up to where what is left has no stray end of a line
         self.seen = 0
         self._step: Callable[[], bool] = self._head
@@ -161,9 +163,9 @@ class Messages:
         at = plain.end() - self.at - 4 if plain else self._end_of_head()
         if at < 0:
             return False
-        self.is_kept = True
         # Where it is strange, nothing of it is taken.
         length, behind = self.begun(Head(self.data[self.at:self.at + at], plain is not None)), at + 4
+        self.is_kept = self.is_wanted
         if length is not None and 0 <= length <= BODY and self._left() >= behind + length:
             whole = self._cut(behind + length)
             self.raw(whole)
@@ -188,7 +190,7 @@ class Messages:
         taken = self._cut(min(count, self._left()))
         if self.is_kept:
             self.body += taken
-            if len(self.body) > BODY:
+            if len(self.body) > self.most():
                 self.body, self.is_kept = bytearray(), False
         self.raw(taken)
         return len(taken)

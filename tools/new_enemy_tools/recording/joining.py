@@ -4,7 +4,7 @@ The feed of the changes is what all share. Each line keeps its place among the c
 """
 import heapq
 from bisect import bisect_right
-from typing import Iterator, NamedTuple, Optional, Sequence, Union
+from typing import Collection, Iterator, NamedTuple, Optional, Sequence, Union
 
 from new_enemy_tools.importing.events import Event, Relationship, read_events
 from new_enemy_tools.importing.refusals import Refusals
@@ -80,9 +80,9 @@ class OfNumbers:
 class OfPlaces:
     """Of OpenFGA: a revision is a place in the recorder's own order of the changes."""
 
-    def __init__(self, sketches: list[Sketch], known: int = 0, place: int = 0):
-        """Of the first so many logs the order of the changes up to a place is known already, and stays."""
-        self.spine, self.sketches = Spine(sketches[0]), sketches
+    def __init__(self, sketches: list[Sketch], known: int = 0, place: int = 0, odd: Collection[Relationship] = ()):
+        """Of the first so many logs the order of the changes up to a place is known already, and stays; so do tuples that are `odd`."""
+        self.spine, self.sketches = Spine(sketches[0], odd), sketches
         for number, one in enumerate(sketches[1:], 1):
             if number == known:
                 self.spine.fix(place)

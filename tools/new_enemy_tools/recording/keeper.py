@@ -12,7 +12,7 @@ from typing import Any, Callable, NamedTuple, Optional, Protocol
 
 from new_enemy_tools.recording.asking import FeedFault
 from new_enemy_tools.recording.core import NOISE, Core, Faulty, Now, Service
-from new_enemy_tools.recording.log_files import InUse, Left, LogFault, LogFiles
+from new_enemy_tools.recording.log_files import Beside, InUse, Left, LogFault, LogFiles
 from new_enemy_tools.recording.messages import KINDS, Bye, Ended, Key, messages_from
 from new_enemy_tools.recording.metrics import Status, StatusSender
 from new_enemy_tools.shown import tell
@@ -22,6 +22,7 @@ MESSAGES = 20_000
 ROOM = 64 << 20
 EACH = ROOM // MESSAGES
 TICK = 0.2
+BESIDE = "another recorder passed them, and ended while it waited for this folder"
 # So long the end waits for changes that entries need.
 LAST = 5.0
 
@@ -113,6 +114,7 @@ class Keeper:
             self._write()
             if time.monotonic() - ticked > TICK:
                 ticked = time.monotonic()
+                self._take_beside()
                 self.core.tick(_now())
                 self.sender.tell(self._status())
 
@@ -175,8 +177,23 @@ class Keeper:
             except LogFault as fault:
                 self.say("cannot write to %s: %s" % (self.settings.folder, fault))
             if self._is_last():
+                self._leave()
                 raise LogFault("it was never begun")
             time.sleep(0.5)
+
+    def _leave(self) -> None:
+        """What passed here is told to the recorder that has the folder."""
+        while not self.queue.empty():
+            self._take(*self.queue.get())
+        self.core.end_asked(_now())
+        lost, since = self.core.gaps.take()
+        if lost:
+            self.log.leave(Beside(lost, since, time.time_ns()))
+
+    def _take_beside(self) -> None:
+        """What others passed that ended while this one had the folder is a gap of its log."""
+        for one in self.log.beside() if self.core.is_ready else ():
+            self.core.miss(BESIDE, one.start, one.end, one.amount)
 
     def _take(self, messages: list[Any], weight: int) -> None:
         self.taken += weight
@@ -238,6 +255,7 @@ class Keeper:
             self._write()
         self.core.end(_now())
         if self.core.is_ready:
+            self._take_beside()
             self._write()
             self._close()
         elif self.core.gaps.open:

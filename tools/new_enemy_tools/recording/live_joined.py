@@ -10,7 +10,7 @@ from new_enemy_tools.importing.times import nanoseconds
 from new_enemy_tools.recording.days_joined import ENTRIES, Before, DayJoin, Taken, refuse_missing, without_late
 from new_enemy_tools.recording.joining import WAITED, Placed, Standing, is_of_base, says_nothing
 from new_enemy_tools.recording.own_events import NEVER
-from new_enemy_tools.recording.sketches import Given, Row, Sketch, Value, Version, last_of, version_of
+from new_enemy_tools.recording.sketches import Given, Row, Sketch, Unreached, Value, Version, last_of, version_of
 
 
 class Waiting(NamedTuple):
@@ -136,7 +136,13 @@ class LiveJoin:
         if not given or any(self.logs[one.name].count < one.lines for one in self.before.logs):
             return []
         is_first = not self.before.logs
-        made = without_late(given, over, self.before, lambda some, late: Round(self, some, late, over, now))
+        try:
+            made = without_late(given, over, self.before, lambda some, late: Round(self, some, late, over, now))
+        except Unreached as fault:
+            if fault.name in over or not fault.is_behind:
+                raise
+            self.waits_for = [fault.name]
+            return []
         lines = list(made.lines())
         self.before = made.after()
         self.waits_for = [name for name, _ in made.waiting().logs] + [one.name for one in made.late]

@@ -25,6 +25,8 @@ NAME = re.compile(r"[0-9]{6}\.jsonl(?:\.gz)?")
 PACKED = ".gz"
 # What is compressed by half, in no list of the log's files.
 PART = re.compile(r"\.[0-9]{6}\.part")
+# What a recorder leaves that ended while another had the folder.
+BESIDE = re.compile(r"beside-[0-9]+")
 # So long the end of a recorder waits for what is compressed.
 PATIENCE = 5.0
 SIZE = 512 << 20
@@ -86,6 +88,14 @@ class Left(NamedTuple):
         return self.revision - self.place.revision + self.place.behind
 
 
+class Beside(NamedTuple):
+    """What a recorder passed that ended while another had its folder: how much, from and to when."""
+
+    amount: int
+    start: int
+    end: int
+
+
 class _Found(NamedTuple):
     number: int
     before: Optional[str]
@@ -125,6 +135,33 @@ class LogFiles:
             raise InUse from None
         except OSError as fault:
             raise LogFault(fault.strerror) from None
+
+    def leave(self, given: Beside) -> None:
+        """Leaves word for the recorder that has the folder; raises LogFault."""
+        path = os.path.join(self.folder, "beside-%d" % time.time_ns())
+        try:
+            descriptor = os.open(path + ".new", os.O_CREAT | os.O_TRUNC | os.O_WRONLY, 0o600)
+            with open(descriptor, "w", encoding="utf-8") as file:
+                json.dump(given, file)
+            os.replace(path + ".new", path)
+        except OSError as fault:
+            raise LogFault(fault.strerror) from None
+
+    def beside(self) -> list[Beside]:
+        """Takes what others left that ended while this one had the folder."""
+        found = []
+        try:
+            for name in os.listdir(self.folder):
+                if BESIDE.fullmatch(name):
+                    path = os.path.join(self.folder, name)
+                    with open(path, encoding="utf-8") as file:
+                        given = Beside(*json.load(file))
+                    os.remove(path)
+                    found.append(given)
+        except (OSError, ValueError, TypeError):
+            # It is looked for again.
+            pass
+        return found
 
     def recover(self) -> Optional[Left]:
         """Closes what an earlier recorder left, and says where it was; raises LogFault."""

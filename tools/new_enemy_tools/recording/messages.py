@@ -131,14 +131,22 @@ class Teller:
         """Keeps what is to be told, behind what was lost; False where there is no room."""
         if self.end is None or self.size >= ROOM:
             return False
-        for one in (message,) if self.lost is None else (self.lost, message):
-            self.waiting.append(packed(one))
-            self.size += len(self.waiting[-1])
-        self.lost = None
+        self._put_lost()
+        self._keep(message)
         return True
 
+    def _put_lost(self) -> None:
+        if self.lost is not None and self.end is not None and self.size < ROOM:
+            lost, self.lost = self.lost, None
+            self._keep(lost)
+
+    def _keep(self, message: tuple[Any, ...]) -> None:
+        self.waiting.append(packed(message))
+        self.size += len(self.waiting[-1])
+
     def flush(self) -> bool:
-        """Writes what the socket takes; whether nothing waits."""
+        """Writes what the socket takes, also what was lost; whether nothing waits."""
+        self._put_lost()
         while self.waiting and self.end is not None:
             try:
                 sent = self.end.send(b"".join(islice(self.waiting, AT_ONCE)))

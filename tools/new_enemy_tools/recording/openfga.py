@@ -35,8 +35,8 @@ from new_enemy_tools.recording.sequencer import Commit
 from new_enemy_tools.recording.stored import Stored
 
 PATH = re.compile(r"/stores/([^/]+)/(check|batch-check|list-objects|streamed-list-objects|list-users|write)")
-# Whatever else is asked of a store may be a decision, but for these.
-MAY_DECIDE = re.compile(r"/stores/[^/]+/(?!(?:authorization-models|assertions|changes|expand|read|write)(?:/|\Z))")
+# Whatever else is asked of a store may be a decision, but for these; so may what is asked by the names of gRPC.
+MAY_DECIDE = re.compile(r"/stores/[^/]+/(?!(?:authorization-models|assertions|changes|expand|read|write)(?:/|\Z))|/openfga\.")
 CALLS = {"check": "check", "batch-check": "batch", "list-objects": "list", "list-users": "list", "streamed-list-objects": "stream",
          "write": "write"}
 REQUESTS = {call: "".join(word.title() for word in call.split("-")) + "Request" for call in CALLS}
@@ -512,7 +512,7 @@ class OpenFga:
             core.forget(message.number)
             return
         newest = message.save is not None or asks_for_newest(request)
-        since = asked.clock if newest else self._stale(asked.clock)
+        since = self._since(asked.clock, 0 if newest else self.stale)
         token = None if message.token is None or newest and message.save is None else self._place_of(message.token)
         self.weight += len(answers)
         if self.weight > WAITING:
@@ -530,10 +530,11 @@ class OpenFga:
         refuse_unknown(message.path, request)
         return request
 
-    def _stale(self, clock: int) -> int:
-        """When that was known which a check has seen at least that does not ask for the newest state."""
-        since = clock - self.stale
-        if self.stale and since < self.first and not self.is_from_empty:
+    def _since(self, clock: int, stale: int) -> int:
+        """When that was known which a check has seen at least that may have its answer from a cache so old. What was told late may have been asked
+        before the base state was read."""
+        since = clock - stale
+        if since < self.first and not self.is_from_empty:
             raise Bad("a check may have seen a state from before the log")
         return since
 

@@ -57,7 +57,7 @@ class Call(NamedTuple):
 
 def overheard(name: str, rows: Iterable[Row], took: int) -> Own:
     """What a log or some taps say; a request of the log began at most `took` nanoseconds before its line. Raises JoinFault."""
-    made: list[Row] = []
+    made: list[tuple[int, Row]] = []
     passed: Counter[str] = Counter()
     until, payloads = 0, Payloads()
     service: Optional[str] = None
@@ -72,9 +72,11 @@ def overheard(name: str, rows: Iterable[Row], took: int) -> Own:
             passed[call] += 1
         elif call is not None:
             until = max(until, call.ended)
-            made += (row._replace(value=value) for value in _values(call))
+            made += ((call.ended, row._replace(value=value)) for value in _values(call))
     passed += payloads.left()
-    return Own(name, service or "openfga", None, until, made, False, passed)
+    # The names of taps have another order.
+    rows_in_order = [row for _, row in sorted(made, key=lambda one: one[0])]
+    return Own(name, service or "openfga", None, until, rows_in_order, False, passed)
 
 
 def _fault(row: Row, why: str) -> JoinFault:
@@ -88,7 +90,7 @@ def _values(call: Call) -> Iterator[Value]:
     try:
         answers = [] if call.why is not None else list(ANSWERS[call.service](call.asked, call.answered, UNHEARD))
     except Bad as fault:
-        yield {**lost, "reason": causes.UNREADABLE, "detail": str(fault), **_saved(call, None)}
+        yield _unread(call, {**lost, "reason": causes.UNREADABLE, "detail": str(fault)})
         return
     message = Ended(0, "", "", call.began, call.ended, 0, call.save, call.version, None, 200, None, None, None, call.why)
     try:
@@ -96,7 +98,7 @@ def _values(call: Call) -> Iterator[Value]:
         said = {"saves": call.save, "shows": call.version, **(_of_tokens(call) if call.service == "spicedb" else _of_model(call))}
     except Bad as fault:
         if not answers:
-            yield {**lost, "reason": str(fault), **_saved(call, None)}
+            yield _unread(call, {**lost, "reason": str(fault)})
         for answer in answers:
             yield {**lost, "reason": str(fault), "detail": str(answer.goal), **_saved(call, answer)}
         return
@@ -122,6 +124,14 @@ def _of_tokens(call: Call) -> dict[str, Any]:
     if token is not None and revision_in({"token": token}, "the request's consistency").number is None:
         raise Bad("a token of PostgreSQL, which only ne import spicedb can place")
     return {"newest": get(get(call.asked, "consistency"), "fullyConsistent") is True, "snapshot": found.shown, "token": token}
+
+
+def _unread(call: Call, lost: Value) -> Value:
+    """A call that can't be taken. Where it is not known of what object it saved a version, any that no line has may be that one: as in a gap."""
+    saved = _saved(call, None)
+    if call.save is None or saved:
+        return {**lost, **saved}
+    return {"event": "lost", "store": call.store, "from": text_of_time(call.began), "to": text_of_time(call.ended), "count": 1, "reason": lost["reason"]}
 
 
 def _saved(call: Call, answer: Optional[Answer]) -> dict[str, Any]:

@@ -160,7 +160,7 @@ class Placing:
             at = nanoseconds(value["time"]) or 0
             return Said(self.known(at), {key: one for key, one in value.items() if key not in ("store", "time")})
         if value["event"] == "lost":
-            lost = {"event": "gap", "from": value["from"], "to": value["to"], "reason": LOST, "lost": value["count"], "time": value["to"]}
+            lost = {"event": "gap", "from": value["from"], "to": value["to"], "reason": value.get("reason", LOST), "lost": value["count"], "time": value["to"]}
             return Said(self.known(nanoseconds(value["to"]) or 0), lost)
         began, ended = _read_times(row, "began", "ended")
         looked = _no_one_user(value["goal"]) or self.looked(row, began, ended)

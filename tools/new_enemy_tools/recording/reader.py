@@ -16,7 +16,7 @@ Call = Callable[[str, str], Optional[str]]
 # What counts as the status of an answer that may have been given, and can't be read along.
 UNREAD = 200
 # A longer request of a check goes on in pieces, and is a gap.
-HELD = 1 << 20
+HELD, LONG = 1 << 20, "a request of more than %d bytes, which went on in pieces"
 LABELS = {name: "x-content-" + name for name in ("save", "version", "token")}
 
 
@@ -68,7 +68,7 @@ class Reader:
         # how many bytes are held of these
         self.held = 0
         self.asked: Optional[Exchange] = None
-        self.requests = Messages(self._request, self._request_body, self._hold)
+        self.requests = Messages(self._request, self._request_body, self._hold, lambda: HELD)
         self.answers = Messages(self._answer, self._answer_body)
         # what is passed on, whatever it is
         self.free = bytearray()
@@ -135,7 +135,7 @@ class Reader:
                 return found
             if len(one.held) <= HELD:
                 return b""
-            one.strange = "a request of more than %d bytes, which went on in pieces" % HELD
+            one.strange = LONG % HELD
         self._tell(one)
         one.is_passed = True
         found, one.held = bytes(one.held), bytearray()
@@ -203,6 +203,7 @@ class Reader:
         path = path_of(head.words[1])
         exchange = Exchange(self.call_of(head.words[0], path), head, path)
         length = head.length() or 0
+        self.requests.is_wanted = exchange.call in TOLD
         self.exchanges.append(exchange)
         self.coming.append(exchange)
         self.asked = exchange
@@ -213,6 +214,8 @@ class Reader:
             self.asked.is_whole = True
             if self.asked.call in TOLD:
                 self.asked.request = body
+                if body is None:
+                    self.asked.strange = self.asked.strange or LONG % HELD
         self.asked = None
 
     def _answer(self, head: Head) -> Optional[int]:
@@ -225,6 +228,7 @@ class Reader:
         if status == "101" or exchange.method == "CONNECT" and status.startswith("2"):
             raise Strange("another protocol")
         exchange.status, exchange.encoding = int(status), head.text("content-encoding")
+        self.answers.is_wanted = exchange.call in TOLD
         if exchange.method == "HEAD" or status.startswith("1") or status in ("204", "304"):
             return 0
         return head.length()

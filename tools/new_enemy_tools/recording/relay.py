@@ -1,5 +1,6 @@
 """The proxy: passes the bytes of each connection through unchanged, and reads along."""
 import asyncio
+import errno
 import ssl
 import sys
 import time
@@ -165,11 +166,12 @@ class Relay:
             client.reader.leave()
             client.transport.close()
 
-    def refuse(self, transport: Any) -> None:
-        """There are as many clients as there may be files."""
+    def refuse(self, transport: Any, why: str) -> None:
+        """There are as many clients as there may be files, or no more files."""
         transport.abort()
         self.refused += 1
-        self.teller.lose("a connection was refused, since there were %d" % self.most)
+        self.teller.lose("a connection was refused, since " + why)
+        self.put(transport, b"")
         if self.refused & (self.refused - 1) == 0:
             sys.stderr.write("record: connections refused: %d; this process may have too few files open (ulimit -n)\n" % self.refused)
 
@@ -180,8 +182,11 @@ class Relay:
         try:
             await asyncio.get_running_loop().create_connection(
                 lambda: service, self.host, self.port, ssl=self.context, server_hostname=self.host if self.secure else None)
-        except OSError:
-            client.transport.abort()
+        except OSError as fault:
+            if fault.errno in (errno.EMFILE, errno.ENFILE):
+                self.refuse(client.transport, "no more files could be opened")
+            else:
+                client.transport.abort()
             return
         client.begin(service)
 
@@ -224,7 +229,7 @@ class Client(Side):
             transport.abort()
             return
         if len(self.relay.open) >= self.relay.most:
-            self.relay.refuse(transport)
+            self.relay.refuse(transport, "there were %d" % self.relay.most)
             return
         transport.pause_reading()
         self.relay.open.add(self)

@@ -20,11 +20,12 @@ class JoinFault(ToolFault):
 
 
 class Unreached(JoinFault):
-    """A log begins with changes that the others do not have, or do not have yet."""
+    """A log begins with changes that the others do not have, or do not have yet. Where it `is_behind` them, it may be that which of their changes
+    it began with only its own next ones tell."""
 
-    def __init__(self, name: str, why: str):
+    def __init__(self, name: str, why: str, is_behind: bool = False):
         super().__init__("%s %s" % (name, why))
-        self.name = name
+        self.name, self.is_behind = name, is_behind
 
 
 class Row(NamedTuple):

@@ -35,7 +35,7 @@ from new_enemy_tools.recording.transactions import Transactions
 CALLS = {"/v1/permissions/check": "check", "/v1/permissions/checkbulk": "batch",
          "/v1/experimental/permissions/bulkcheckpermission": "batch", "/v1/permissions/resources": "stream",
          "/v1/permissions/subjects": "stream", "/v1/relationships/write": "write", "/v1/relationships/delete": "write"}
-MAY_DECIDE = re.compile(r"/v1/(?:experimental/)?permissions/(?!expand(?:/|\Z))")
+MAY_DECIDE = re.compile(r"/v1/(?:experimental/)?permissions/(?!expand(?:/|\Z))|/authzed\.api\.")
 # A stream that ended is opened again after so long.
 AGAIN = 0.05
 # Of so many transactions it is remembered that they came.

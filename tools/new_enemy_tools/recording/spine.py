@@ -5,7 +5,7 @@ The list has the order of the log that began first; and what one of them knows t
 """
 import heapq
 from collections import deque
-from typing import Any, Callable, Iterator, NamedTuple, Optional
+from typing import Any, Callable, Collection, Iterator, NamedTuple, Optional
 
 from new_enemy_tools.importing.events import Relationship
 from new_enemy_tools.recording.lines import ODD
@@ -96,15 +96,16 @@ class Track:
 class Spine:
     """Changes in groups that came at once, by their places from 1 on."""
 
-    def __init__(self, first: Sketch):
-        self.base, self.first = first.revision, first
+    def __init__(self, first: Sketch, odd: Collection[Relationship] = ()):
+        """`odd` are tuples of which it was said already that they do not come by turns: they stand as they were read."""
+        self.base, self.first, self.told_odd = first.revision, first, frozenset(odd)
         self.changes: list[Change] = []
         # what came at once by the steps of some log
         self.together: list[list[int]] = []
         self.groups: list[list[int]] = []
         self.at: dict[int, int] = {}
         # tuples that do not come by turns: of these it is not known whether they are there
-        self.odd: set[Relationship] = set()
+        self.odd: set[Relationship] = set(odd)
         # changes of which it was said already what came at once with them
         self.fixed: set[int] = set()
         self.ranks = [self._added(first)]
@@ -120,6 +121,10 @@ class Spine:
     def keys(self, place: int) -> list[tuple[Any, ...]]:
         """What the changes at a place are known by."""
         return [self.changes[one].key for one in self.groups[place - 1]]
+
+    def odd_until(self, place: int) -> set[Relationship]:
+        """The tuples of which the lines up to a place say that they do not come by turns."""
+        return self.odd.intersection(given for group in self.groups[:place] for one in group for given in self.changes[one].tuples)
 
     def lines(self, place: int) -> Iterator[Value]:
         for one in self.groups[place - 1]:
@@ -205,6 +210,8 @@ class Spine:
         for one, change in enumerate(self.changes):
             for given in change.tuples:
                 of.setdefault(given, []).append(one)
+        for given in self.told_odd & of.keys():
+            of[given] = []
         for given, listed in of.items():
             sides = [deque(one for one in listed if bool(self.changes[one].value.get("add")) is comes) for comes in (False, True)]
             is_there, turns = given in self.first.base, list[int]()
@@ -253,7 +260,7 @@ class Spine:
         unformed = self.first.unformed.union(one[:3] for one in self.odd)
         found = self._had(sketch, turns, tuples, count, unformed | sketch.unformed)
         by_turns = [self.changes[one] for listed in turns.values() for one in listed if one in found]
-        refuse_other_base(sketch, state_of(self.first.base, by_turns), unformed)
+        refuse_other_base(sketch, state_of(self.first.base, by_turns), unformed, len(tuples) > count)
         found |= self._rules_in_base(sketch, [one for one in others if self.changes[one].is_rules])
         return [one for one in others if one in found]
 
@@ -304,13 +311,14 @@ def state_of(base: set[Relationship], changes: list[Change]) -> set[Relationship
     return found
 
 
-def refuse_other_base(sketch: Sketch, state: set[Relationship], unformed: set[tuple[str, ...]]) -> None:
+def refuse_other_base(sketch: Sketch, state: set[Relationship], unformed: set[tuple[str, ...]], is_behind: bool = False) -> None:
     """Raises Unreached where a log begins with another state than the others have there, but for what one of them has no form for."""
     for one in sorted(state ^ sketch.base):
         if tuple(one[:3]) not in (unformed | sketch.unformed):
             raise Unreached(sketch.given.name, "does not begin with what the other logs have there: %s is in %s, and not in %s. It is of another "
-                            "store, or there were changes that are in no log" % (
-                                one, *(("the other logs", "it") if one in state else ("it", "the other logs"))))
+                            "store, or there were changes that are in no log%s" % (
+                                one, *(("the other logs", "it") if one in state else ("it", "the other logs")),
+                                ", or too few of the next ones are in it" * is_behind), is_behind)
 
 
 class Numbered:
@@ -331,6 +339,10 @@ class Numbered:
 
     def keys(self, place: int) -> list[tuple[Any, ...]]:
         return [change.key for change in self.steps[self.numbers[place - 1]]]
+
+    def odd_until(self, place: int) -> set[Relationship]:
+        """A tuple may be touched several times."""
+        return set()
 
     def lines(self, place: int) -> Iterator[Value]:
         for change in self.steps[self.numbers[place - 1]]:

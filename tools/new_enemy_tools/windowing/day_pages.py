@@ -6,7 +6,7 @@ from new_enemy_tools.page import VERDICTS, asset, color_of, head, write_pages
 from new_enemy_tools.shown import markup
 from new_enemy_tools.windowing.audited_window import Audited
 from new_enemy_tools.windowing.days import Days, Summary, labels_of
-from new_enemy_tools.windowing.window_bytes import Own
+from new_enemy_tools.windowing.own_lines import Own
 from new_enemy_tools.windowing.window_effects import telling_in_full
 
 COLUMNS = ("Day", "From", "To", "Verdict", "Findings", "Checks", "Not audited whole", "Held back", "Lost in gaps", "Name a version", "Carry a token", "Logs")

@@ -12,7 +12,7 @@ from hashlib import blake2b
 from typing import Any, BinaryIO, Iterator, NamedTuple, Optional, Sequence
 
 from new_enemy_tools.labels import Labels
-from new_enemy_tools.windowing.state import Head, read_sum
+from new_enemy_tools.windowing.state import CARRY, FILES, OLD_STATE, State, seal_in
 from new_enemy_tools.windowing.window_faults import WindowFault
 
 WORK = "work"
@@ -23,11 +23,12 @@ MAIL = "mail.txt"
 COMPARED = 3
 DAY = re.compile("day[0-9]{6,}")
 PIECE = 1 << 20
-# What a day goes on from; the last two days have it. Of joined logs JOIN says what the days so far have of each.
+# What a day goes on from; the last two days have it. Of joined logs JOIN says what the days so far have of each; OLD_STATE is what days of
+# earlier versions have in place of a carry.
 JOIN = "joined"
 # Of a day that a monitor kept, what its next run goes on from.
 MONITORED = "monitored.json"
-GOING_ON = ("state", "left", "ids.jsonl", JOIN, MONITORED)
+GOING_ON = (*FILES, OLD_STATE, "left", "ids.jsonl", JOIN, MONITORED)
 # The folder of a joined log while it is imported.
 JOINED_LOG = "joined_log"
 TRACES = ("trace.zst", "trace.gz", "lines.json")
@@ -89,13 +90,17 @@ class Days:
         path = None if self.last is None else self.path(self.last, name)
         return path if path is not None and os.path.exists(path) else None
 
-    def refuse_other(self, head: Head) -> None:
+    @property
+    def last_folder(self) -> Optional[str]:
+        return None if self.last is None else os.path.dirname(self.path(self.last, CARRY))
+
+    def refuse_other(self, state: State) -> None:
         """Refuses a state that is not that of the last day, or goes on from another one than that of the day before."""
         last = self.last or 0
-        previous = self.path(last - 1, "state")
-        if head.window != last or os.path.exists(previous) and head.before != read_sum(previous):
+        previous = seal_in(os.path.dirname(self.path(last - 1, CARRY)))
+        if state.head.window != last or previous is not None and state.head.before != previous:
             raise WindowFault("the state of day %d is not that of this folder: it stands for %d windows, or goes on from another state"
-                              % (last, head.window))
+                              % (last, state.head.window))
 
     def work(self, name: str = "") -> str:
         return os.path.join(self.folder, WORK, name)
@@ -109,9 +114,9 @@ class Days:
         """Makes a day of the folder that was worked in; its number."""
         number = 1 + (self.last or 0)
         for name in [*os.listdir(self.work()), ""]:
-            _to_disk(self.work(name))
-        os.rename(self.work(), os.path.dirname(self.path(number, "state")))
-        _to_disk(self.folder)
+            to_disk(self.work(name))
+        os.rename(self.work(), os.path.dirname(self.path(number, CARRY)))
+        to_disk(self.folder)
         self.numbers.append(number)
         return number
 
@@ -182,7 +187,7 @@ def labels_of(given: dict[str, int]) -> Optional[Labels]:
     return Labels(**given) if given else None
 
 
-def _to_disk(path: str) -> None:
+def to_disk(path: str) -> None:
     place = os.open(path, os.O_RDONLY)
     try:
         os.fsync(place)

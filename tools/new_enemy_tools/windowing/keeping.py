@@ -1,8 +1,9 @@
-"""The trace of a day that is kept, compressed: the lines that the program was given, which are those that the days before left and the day's
-own. A file beside it says which line of the log each is."""
+"""The trace of a day that is kept, compressed: the lines that the carry of the days before stands for, and behind them the day's own. A file beside
+it says which line of the log each is."""
 import json
 import os
-from typing import Iterator, NamedTuple, Optional
+from itertools import chain
+from typing import NamedTuple, Optional
 
 from new_enemy_tools.coverage import Coverage, of_row
 from new_enemy_tools.faults import ToolFault
@@ -14,9 +15,8 @@ from new_enemy_tools.trace import Trace, read_lines
 from new_enemy_tools.trace_lines import ids_in
 from new_enemy_tools.windowing.audited_window import Audited
 from new_enemy_tools.windowing.days import TRACES
-from new_enemy_tools.windowing.window_bytes import Joined, Own
+from new_enemy_tools.windowing.own_lines import Own
 
-PIECE = 1 << 20
 TRACE, NUMBERS = "trace", TRACES[-1]
 
 
@@ -26,17 +26,10 @@ class NotKept(ToolFault):
 
 def keep_trace(folder: str, found: Audited, own: Own) -> None:
     """Keeps a day's trace in its folder."""
-    pack(os.path.join(folder, TRACE), _pieces(found, own))
+    pack(os.path.join(folder, TRACE), chain((row.raw + b"\n" for row in found.old.rows), own.blocks()))
     with open(os.path.join(folder, NUMBERS), "w", encoding="utf-8") as file:
-        json.dump({"before": found.window.old.head.lines, "carried": [row.line for row in found.carried]}, file, separators=(",", ":"))
+        json.dump({"before": found.old.lines, "carried": [row.line for row in found.old.rows]}, file, separators=(",", ":"))
         file.write("\n")
-
-
-def _pieces(found: Audited, own: Own) -> Iterator[bytes]:
-    with own.open() as file:
-        joined = Joined(found.carried, file)
-        while piece := joined.read(PIECE):
-            yield piece
 
 
 class DayReport(NamedTuple):

@@ -8,14 +8,16 @@ from new_enemy_tools.forms import FORMS, group_lines
 from new_enemy_tools.ids import Ids
 from new_enemy_tools.labels import Labels, labels_in
 from new_enemy_tools.names import Names
-from new_enemy_tools.parting.blocks import Blocks
 from new_enemy_tools.telling import Telling, telling_of, told_of
 from new_enemy_tools.trace import Trace, read_lines
 from new_enemy_tools.trace_lines import (CHECK_START as CHECK, COMMIT_START as COMMIT, CONTENT_START as CONTENT, NAMESPACE_START as NAMESPACE, OtherForm,
                                          may_issue, refuse_other_keys)
 from new_enemy_tools.windowing.audited_window import Audited
-from new_enemy_tools.windowing.state import Row
-from new_enemy_tools.windowing.window_bytes import Own, lines_of
+from new_enemy_tools.windowing.own_lines import Own
+
+
+# Of rows of a carry the kinds of lines that they stand for; what an entry that waits is shows later.
+KINDS = {"r": "namespace", "f": "commit", "c": "commit", "v": "content", "h": "content"}
 
 
 class Lines(NamedTuple):
@@ -46,29 +48,25 @@ class Lines(NamedTuple):
 def lines_for(found: Audited, own: Own, has_stories: bool = False) -> Lines:
     """Of a window that was audited. It keeps the entries that have findings and, where commits tell something of these, or for stories, the
     store, the commits and the versions."""
-    carried, window, findings = found.carried, found.window, found.report.findings
-    wanted = sorted(lines_of(own, window.old, {one.line for one in findings}).items())
-    rules = _lines(carried, "r", window.rules)
+    old, findings = found.old, found.report.findings
+    lines = {one.line for one in findings}
+    wanted = [(row.line, row.raw) for row in old.waiting if row.line in lines] + sorted(own.numbered(old.lines, lines).items())
+    rows: dict[str, list[Numbered]] = {"namespace": [], "commit": [], "content": []}
+    for row in old.rows:
+        rows[KINDS[row.kind]].append((row.line, row.raw))
+    for kind, one in own.but_checks(old.lines):
+        rows[kind].append(one)
     if not has_stories and not any(one.finding in ON_TOKENS or one.finding == "F10" for one in findings):
-        return Lines(rules, [], [], wanted)
-    issued = _lines(carried, "v", window.issued) + [one for one in _lines(carried, "h", []) if may_issue(one[1])]
-    return Lines(rules, _lines(carried, "fc", window.commits), sorted(issued), wanted)
-
-
-def _lines(carried: list[Row], kinds: str, own: list[Row]) -> list[Numbered]:
-    return [(row.line, row.raw) for row in carried if row.kind in kinds] + [(row.line, row.raw) for row in own]
+        return Lines(rows["namespace"], [], [], wanted)
+    return Lines(rows["namespace"], rows["commit"], [one for one in rows["content"] if may_issue(one[1])], wanted)
 
 
 def labels_at(found: Audited, own: Own) -> Labels:
     """Of the entries that are told with a window: its own and those that were held over, but for those that are held over now."""
-    labels = labels_in(b"\n".join([row.raw for row in found.carried if row.kind == "h"]))
-    if found.counts is not None:
-        labels = labels.plus(found.counts.labels)
-    else:
-        with own.open() as file:
-            for block in Blocks(file):
-                labels = labels.plus(labels_in(block))
-    return labels.plus(labels_in(b"\n".join([row.raw for row in found.carry.rows if row.kind == "h"])), -1)
+    before, after = [labels_in(b"\n".join(raws)) for raws in found.rows_waiting()]
+    for block in own.blocks():
+        before = before.plus(labels_in(block))
+    return before.plus(after, -1)
 
 
 class Texts(NamedTuple):

@@ -1,17 +1,11 @@
 """What is told of a window: the findings on its entries, by the lines of the log."""
-import re
 from collections import Counter
 from typing import Callable, Iterable, Iterator, NamedTuple, Optional
 
-from new_enemy_tools.coverage import Coverage
-from new_enemy_tools.findings import Finding, read_report
+from new_enemy_tools.coverage import INCOMPLETE, Coverage
+from new_enemy_tools.findings import Finding
 from new_enemy_tools.importing import causes
-from new_enemy_tools.parting.merging import Answer
-from new_enemy_tools.windowing.carrying import Carry, Window
-from new_enemy_tools.windowing.window_bytes import Numbers
-from new_enemy_tools.windowing.window_faults import WindowFault
-
-REFUSED = re.compile(r"(trace|evidence) line ([1-9][0-9]*): (.+)\n")
+from new_enemy_tools.windowing.following import Told
 
 
 class Left(NamedTuple):
@@ -29,6 +23,8 @@ class WindowReport(NamedTuple):
     in_part: dict[int, Left]
     entries: int
     held: int
+    # whether the entries that wait go on in a state, or none can wait any longer
+    is_handed_on: bool = True
     # what of the log was looked at
     coverage: Coverage = Coverage()
 
@@ -39,11 +35,14 @@ class WindowReport(NamedTuple):
 
     @property
     def verdict(self) -> str:
-        return "dirty" if self.findings else "incomplete" if self.coverage.status() else "clean"
+        return "dirty" if self.findings else "incomplete" if self.status() else "clean"
 
     def status(self, allowed: float = 0) -> int:
-        """1 where something was found, else 6 where more than so many percent of the checks were not looked at whole."""
-        return 1 if self.findings else self.coverage.status(allowed)
+        """1 where something was found, else 6 where entries wait that no state takes on, or more than so many percent of the checks were not looked
+        at whole."""
+        if self.findings:
+            return 1
+        return INCOMPLETE if self.held and not self.is_handed_on else self.coverage.status(allowed)
 
     def lines(self, behind: Callable[[int], str] = lambda line: "", groups: Optional[Iterable[str]] = None,
               beside: Iterable[str] = ()) -> Iterator[str]:
@@ -69,37 +68,14 @@ def text_of(finding: Finding) -> str:
                                    "" if finding.step is None else " at step %d" % finding.step)
 
 
-def window_report_of(window: Window, carry: Carry, numbers: Numbers, answer: Answer) -> WindowReport:
-    """What the answer says of the entries that are told with this window."""
-    carried = [row for row in window.old.rows if row.kind in "hv"]
-    waited = {row.line for row in carried if row.kind == "h"}
-    # What a window finds on the content checks that it carries is not told, and may be much.
-    report = read_report(answer.output, numbers.told())
-    if report.entries != window.entries + len(carried):
-        raise WindowFault("the program counted %d entries, and the window has %d" % (report.entries, window.entries + len(carried)))
-    not_audited = {line: Left(causes.SNAPSHOT_TOO_OLD, "its snapshot %d is older than %d, where the state begins" % (snapshot, window.base or 0))
-                   for line, snapshot in window.low.items()}
-    not_audited.update((line, Left(causes.NO_COMMIT_CAME, "no commit has come to its snapshot %d" % snapshot))
-                       for line, snapshot in carry.given_up.items())
-    left, has_dropped = {*carry.held, *not_audited}, window.old.head.has_dropped
-    findings, in_part = [], {}
-    for found in report.findings:
-        line = numbers.of(found.line)
-        if line in left:
-            continue
-        if found.finding == "F6" and has_dropped:
-            in_part[line] = Left(causes.VERSION_LET_GO, "its version is not known, and old versions were let go")
-            continue
-        findings.append(found._replace(line=line, related=None if found.related is None else numbers.of(found.related)))
-    return WindowReport(findings, not_audited, in_part, window.entries + len(waited) - len(carry.held), len(carry.held))
+def window_report_of(told: Told, given_up: dict[int, int], unknown: set[int], entries: int, held: int, is_handed_on: bool) -> WindowReport:
+    """What runs told, of entries of which some waited too long, and some name versions that are not known since versions were let go."""
+    not_audited = {line: Left(causes.SNAPSHOT_TOO_OLD, "its snapshot is older than %d, where the state begins" % base) for line, base in told.below.items()}
+    not_audited.update((line, Left(causes.NO_COMMIT_CAME, "no commit has come to its snapshot %d" % snapshot)) for line, snapshot in given_up.items())
+    in_part = {line: Left(causes.VERSION_LET_GO, "its version is not known, and old versions were let go") for line in unknown}
+    return WindowReport(sorted(told.findings, key=place_of), not_audited, in_part, entries, held, is_handed_on)
 
 
-def refused(answer: Answer, numbers: Numbers, records: int) -> str:
-    """The program's refusal by the lines of the log, and of the evidence behind so many records that were kept."""
-    found = REFUSED.fullmatch(answer.error)
-    if found is None:
-        return answer.error
-    line = int(found[2])
-    if found[1] == "trace" and not numbers.is_own(line) or found[1] == "evidence" and line <= records:
-        raise WindowFault("a line that the state carries is refused: %s" % answer.error.strip())
-    return "%s line %d: %s\n" % (found[1], numbers.of(line) if found[1] == "trace" else line - records, found[3])
+def place_of(finding: Finding) -> tuple[int, int]:
+    """The place of a finding in a report: by its line, and by its number."""
+    return finding.line, int(finding.finding[1:])

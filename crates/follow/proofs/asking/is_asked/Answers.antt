@@ -6,8 +6,8 @@ use Rattle.token_order.proofs.Lines.{line_before}
 use Rattle.trace_lines.specs.EntryViews.{entry_value}
 use Rattle.trace_lines.specs.Values.{EntryValue, TraceValue, entry_lines}
 use Rattle.std.specs.List.Sorted.{IsStrictlyIncreasing}
-use Rattle.follow.specs.Told.{is_asked}
-use Rattle.follow.proofs.AskLemmas.{asks_from_nothing, none_on_line, one_on_line}
+use Rattle.carry_laws.specs.Asked.{is_asked}
+use Rattle.carry_laws.proofs.AskLemmas.{asks_from_nothing, none_on_line, one_on_line}
 use Rattle.follow.proofs.asking.is_asked.Goals as goal
 
 -- where entries before number i stand in front of a line, and those from there on do not, one alone may stand on it

@@ -1,5 +1,5 @@
 use Rattle.std.proofs.Common.{◌≡◌, ◌++◌, drop}
-use Rattle.follow.specs.Told.{asked}
+use Rattle.carry_laws.specs.Asked.{asked}
 use Rattle.follow.proofs.asking.push_asked.Given as goal
 
 -- those so far, and those of the rest

@@ -1,4 +1,4 @@
-use Rattle.std.proofs.Common.{◌≡◌, ◌∙◌, ◌+◌, ◌-◌, ◌≤◌, ℕ, Bool, List, [], ◌∷◌, ◌++◌, true, Result, None, Ok, Err, append_assoc, arith, refl, sym, ap, subst, append-nil}
+use Rattle.std.proofs.Common.{◌≡◌, ◌∙◌, ◌+◌, ◌-◌, ◌≤◌, ℕ, Bool, List, [], ◌∷◌, ◌++◌, true, false, Result, None, Ok, Err, append_assoc, arith, refl, sym, ap, subst, append-nil}
 use Rattle.std.specs.Prelude.{IfErr}
 use Rattle.std.proofs.lemmas.Bool.{true≢false}
 use Rattle.std.proofs.lemmas.List.{append_cancel_left}
@@ -8,6 +8,7 @@ use Rattle.audit.specs.Kinds as kind
 use Rattle.audit.specs.declared.plain.AuditFault.TheVariants as faults
 use Rattle.audit.proofs.KindLemmas.{handed_on, kinds-more}
 use Rattle.audit.proofs.Readers.{behind_at_rest, few_at_rest, next_at_rest}
+use Rattle.json_lines.specs.Reading.{line_count}
 use Rattle.runs.specs.Kept.{KeptValue, log_behind, next_kept}
 use Rattle.follow.specs.Reading.{IsKeptSoFar, IsSaidBehind}
 use Rattle.follow.specs.Running.{Run}
@@ -267,9 +268,12 @@ returns-clause-run g c says means =
     (sym read.given.1.1 ∙ came_since g.A.Source.given g.A.Source.ends g.A.Source.failures g.A.Read.remaining c.args.trace.now c.args.log l.trace c.take_line.new.reader l.log l.lines so_far known) in
     let run = l.invariant.run.1 says means in
     let now = run_line says _ _ so_far.used came rest (g.W.Sink.taken c.args.out.now) (g.W.Sink.taken l.out) l.follower is run.0 in
+    let last = c.in_ok-take_line.ensures.counted (ap Ok c.if-branch.false) c.args.trace.now c.args.log so_far in
+    let counted = c.count.ensures ∙ last.2 ∙ ap line_count (append_cancel_left (g.A.Source.given c.args.trace.now) last.0 came
+    (sym last.1 ∙ read.given.1.1)) in
     lines_followed (reads g.A.Source.given g.A.Source.ends g.A.Source.failures g.A.Read.remaining c.args.trace.now c.take_line.new.reader) (writer g.W.Sink.taken g.W.Sink.flushes g.W.Sink.failures g.W.Sink.idle g.W.Write.contents c.args.out.now) (writer g.W.Sink.taken g.W.Sink.flushes g.W.Sink.failures g.W.Sink.idle g.W.Write.contents l.out) (writer g.W.Sink.taken g.W.Sink.flushes g.W.Sink.failures g.W.Sink.idle g.W.Write.contents c.tell-2.new.out)
     l.invariant.kept l.invariant.held says c.args.log means c.requires.fits _ _ c.requires.first l.follower c.tell-2.new.follower
-    c.take_line.new.log came c.tell-2.new.usersets _ c.in_ok-log-2.log (fine_whole says _ c.take_line.new.log.log read)
+    c.take_line.new.log came c.tell-2.new.usersets _ c.in_ok-log-2.log counted (fine_whole says _ c.take_line.new.log.log read)
     read.given.1.2 (read.given.0, (came, read.given.1.1, refl)) now c.in_ok-log-2.ensures.told c.in_ok-log-2.ensures.indexed
 
 pub returns-clause-from : goal.returns-clause-from

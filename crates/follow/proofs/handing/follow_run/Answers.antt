@@ -64,7 +64,7 @@ end_run-requires-clause-begun g c =
     let goes = goes_behind k c.requires run.follows.1.0 t run.follows.1.2.said in
     let more = ap (λ (es : List EntryValue). length es) goes.recorded in
     let long = length-append k.log.entries goes.entries in
-    let begun = c.in_ok-log.ensures.begun in
+    let begun = c.in_ok-log.ensures.start.1 in
     omega (arith, more, long, begun)
 
 pub end_run-requires-clause-followed : goal.end_run-requires-clause-followed
@@ -87,12 +87,16 @@ returns-clause-run g c =
     let from = c.in_ok-log-2.ensures.from in
     let began = c.in_ok-log.ensures.from in
     run_ended k c.args.base (reads g.A.Source.given g.A.Source.ends g.A.Source.failures g.A.Read.remaining c.args.trace.now c.follow_lines.new.trace) (writer g.W.Sink.taken g.W.Sink.flushes g.W.Sink.failures g.W.Sink.idle g.W.Write.contents c.args.out.now)
-    (writer g.W.Sink.taken g.W.Sink.flushes g.W.Sink.failures g.W.Sink.idle g.W.Write.contents c.follow_lines.new.out) (writer g.W.Sink.taken g.W.Sink.flushes g.W.Sink.failures g.W.Sink.idle g.W.Write.contents c.end_run.new.out) f c.in_ok-log-2.log c.in_ok-log-2.usersets c.in_ok-log-2.read
+    (writer g.W.Sink.taken g.W.Sink.flushes g.W.Sink.failures g.W.Sink.idle g.W.Write.contents c.follow_lines.new.out) (writer g.W.Sink.taken g.W.Sink.flushes g.W.Sink.failures g.W.Sink.idle g.W.Write.contents c.end_run.new.out) f c.in_ok-log-2.log c.in_ok-log-2.usersets c.in_ok-log-2.read c.requires
     (from.0 ∙ began.0) (from.1 ∙ began.1) run c.end_run.result
-    (subst (λ (n : ℕ). Told (IsRunEnd c.in_ok-log-2.log.log f n) (record {
+    (subst (λ (n : ℕ). Told (IsRunEnd c.in_ok-log-2.log.log f n (k.lines + c.in_ok-log-2.read)) (record {
       before = writer g.W.Sink.taken g.W.Sink.flushes g.W.Sink.failures g.W.Sink.idle g.W.Write.contents c.follow_lines.new.out;
       after = writer g.W.Sink.taken g.W.Sink.flushes g.W.Sink.failures g.W.Sink.idle g.W.Write.contents c.end_run.new.out;
-    }) c.end_run.result) c.in_ok-log.ensures.begun c.end_run.ensures)
+    }) c.end_run.result) c.in_ok-log.ensures.start.1
+    (subst (λ (n : ℕ). Told (IsRunEnd c.in_ok-log-2.log.log f c.in_ok-log.start.entries (n + c.in_ok-log-2.read)) (record {
+      before = writer g.W.Sink.taken g.W.Sink.flushes g.W.Sink.failures g.W.Sink.idle g.W.Write.contents c.follow_lines.new.out;
+      after = writer g.W.Sink.taken g.W.Sink.flushes g.W.Sink.failures g.W.Sink.idle g.W.Write.contents c.end_run.new.out;
+    }) c.end_run.result) c.in_ok-log.ensures.start.0 c.end_run.ensures))
 
 pub returns-clause-kinds : goal.returns-clause-kinds
 returns-clause-kinds g c =

@@ -1,4 +1,4 @@
-use Rattle.std.proofs.Common.{◌≡◌, Ok, true, ap}
+use Rattle.std.proofs.Common.{◌≡◌, Ok, true, false, ap}
 use Rattle.follow.proofs.ReadLemmas.{line_refused, log_came}
 use Rattle.follow.proofs.reading.take_line.Goals as goal
 
@@ -11,6 +11,7 @@ returns-in-Ok g c = record {
       log_came g.R.Source.given g.R.Source.ends g.R.Source.failures g.R.Read.remaining first c.take_next.new.reader
       start c.take_next.new.value says means c.in-Ok.more (c.in-Ok.ensures.read (λ is.
       let same : c.in-Ok.more ≡ true = cc (is) in ended (ap Ok same)) first start so_far);
+  counted = λ is. c.in-Ok.ensures.last (ap Ok (let same : c.in-Ok.more ≡ false = cc (is) in same));
   known = c.in-Ok.ensures.known;
 }
 
@@ -23,5 +24,6 @@ returns-in-Err g c = record {
       line_refused g.R.Source.given g.R.Source.ends g.R.Source.failures g.R.Read.remaining first c.take_next.new.reader
       start c.take_next.new.value says means c.in-Err.fault _ c.cause.ensures c.in-Err.ensures.told
       (c.in-Err.ensures.read (λ no. cc) first start so_far) _ c.from.ensures;
+  counted = λ is. absurd (cc (is));
   known = c.in-Err.ensures.known;
 }

@@ -17,6 +17,7 @@ loop-lines-init g c =
     let made = c.in-Ok.ensures in record {
       so_far = record {
         used = [];
+        none = λ _. refl;
         whole = λ later. absurd (omega (arith, later, made.1));
         gave = sym (ap (λ (l : List ℕ). (g.R.Source.given c.args.reader.now ++ []) ++ l) made.0 ∙ append-nil (g.R.Source.given c.args.reader.now ++ [])
             ∙ append-nil (g.R.Source.given c.args.reader.now));

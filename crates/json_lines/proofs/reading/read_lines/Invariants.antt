@@ -1,4 +1,4 @@
-use Rattle.std.proofs.Common.{◌≡◌, ◌+◌, ◌^◌, ◌≤◌}
+use Rattle.std.proofs.Common.{◌+◌, ◌^◌, ◌≤◌}
 use Rattle.json_lines.specs.Json.{taken_line}
 use Rattle.json_lines.specs.SoFar.{IsReadSoFar}
 use Rattle.json_lines.proofs.reading.read_lines.Given as goal

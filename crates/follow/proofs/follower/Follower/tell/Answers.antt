@@ -9,8 +9,8 @@ use Rattle.monitor.specs.declared.monitor.Monitor.{Monitor}
 use Rattle.audit.specs.Made.{IsMade}
 use Rattle.follow.specs.Heartbeats.{Beats}
 use Rattle.follow.specs.Pieces.{beat_text}
-use Rattle.follow.specs.Told.{asked}
-use Rattle.follow.proofs.AskLemmas.{asked_still}
+use Rattle.carry_laws.specs.Asked.{asked}
+use Rattle.carry_laws.proofs.AskLemmas.{asked_still}
 use Rattle.follow.proofs.FollowerLemmas.{cut_behind, further_followed}
 use Rattle.follow.proofs.follower.Follower.tell.Goals as goal
 

@@ -6,7 +6,7 @@ use Rattle.findings.specs.declared.finding.Finding.{Finding}
 use Rattle.monitor.specs.Telling.{TellsLeft}
 use Rattle.monitor.proofs.PastLemmas.{behind_left}
 use Rattle.audit.specs.Made.{IsMade}
-use Rattle.follow.specs.Told.{asked}
+use Rattle.carry_laws.specs.Asked.{asked}
 use Rattle.follow.proofs.FollowerLemmas.{cut_behind}
 use Rattle.follow.proofs.follower.Follower.tell_end.Goals as goal
 

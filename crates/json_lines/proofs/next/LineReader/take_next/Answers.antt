@@ -1,11 +1,12 @@
-use Rattle.std.proofs.Common.{◌≡◌, ◌+◌, Ok, Err, ◌∙◌, sym, refl, ap, arith, ℕ, List, ◌++◌, length, ◌≤◌, ◌^◌, min, true, false, ◌&&◌, eqb, append_assoc, length-append}
+use Rattle.std.proofs.Common.{◌≡◌, ◌+◌, [], Ok, Err, ◌∙◌, sym, refl, ap, arith, ℕ, List, ◌++◌, length, ◌≤◌, ◌^◌, min, true, false, ◌&&◌, eqb, append_assoc, append-nil, length-append}
 use Rattle.devices.proofs.Given.{next-trans}
 use Rattle.json_lines.specs.Json.{taken_line}
 use Rattle.json_lines.specs.Lines.{line_ending}
 use Rattle.json_lines.specs.declared.lines.InputFault.TheVariants.{TooLong}
 use Rattle.json_lines.specs.declared.reading.Stop.TheVariants.{Input}
+use Rattle.json_lines.proofs.Counts.{counts_all}
 use Rattle.json_lines.proofs.Exits.{no_error, same_error, same_fault, no_long_fault}
-use Rattle.json_lines.proofs.Folds.{Within, within_from, room_left, came_in_all, goes_on, cut_ends, over_ends, step_cut, last_ends, read_fails}
+use Rattle.json_lines.proofs.Folds.{Within, from_one, within_from, room_left, came_in_all, goes_on, cut_ends, over_ends, step_cut, last_ends, read_fails}
 use Rattle.json_lines.proofs.LinesReads.{stops}
 use Rattle.json_lines.proofs.next.LineReader.take_next.Goals as goal
 use Rattle.json_lines.proofs.next.LineReader.take_next.Goals.{then-more, else-more}
@@ -116,6 +117,8 @@ returns-clause-goes g c more first start so_far = elim c.if-more.branch [
       let going = so_far.going in
       rw w.self-is record {
         used = so_far.used ++ (c.next.new.line.items ++ line_ending true);
+        none = λ one. let above = from_one (taken_line g.T.Cause.LineCause.not_json g.T.TakeJson.taken) start c.args.self.now.number
+            c.args.self.now.room c.args.value.now so_far.used so_far.follows in absurd (omega (arith, one, above));
         whole = λ _. (so_far.used ++ c.next.new.line.items, sym (append_assoc so_far.used c.next.new.line.items (line_ending true)));
         gave = came ∙ regroup (g.R.Source.given first) so_far.used (c.next.new.line.items ++ line_ending true) c.next.new.self;
         fits = omega (arith, size, ended, now, room, fits);
@@ -128,3 +131,20 @@ returns-clause-goes g c more first start so_far = elim c.if-more.branch [
   where
     regroup : (old used line left : List ℕ) → (old ++ used) ++ (line ++ left) ≡ (old ++ (used ++ line)) ++ left
     regroup old used line left = sym (append_assoc (old ++ used) line left) ∙ ap (λ (l : List ℕ). l ++ left) (append_assoc old used line)
+
+pub returns-clause-last : goal.returns-clause-last
+returns-clause-last g c ended first start so_far = elim c.if-more.branch [
+  | then-more w ↦ absurd (cc (ended, w.if-more.true))
+  | else-more w ↦
+      let no = w.if-more.false in
+      let line = rw no at c.in-Ok.ensures.line in
+      let none = c.next.ensures.last (c.in-Ok.is ∙ ap Ok no) in (
+        so_far.used ++ c.next.new.line.items,
+        line.1 (g.R.Source.given first ++ so_far.used) so_far.gave
+            ∙ ap (λ (l : List ℕ). (g.R.Source.given first ++ so_far.used) ++ ((c.next.new.line.items ++ []) ++ l)) none
+            ∙ ap (λ (l : List ℕ). (g.R.Source.given first ++ so_far.used) ++ l) (append-nil (c.next.new.line.items ++ []) ∙ append-nil c.next.new.line.items)
+            ∙ append_assoc (g.R.Source.given first) so_far.used c.next.new.line.items,
+        rw w.self-is (counts_all (taken_line g.T.Cause.LineCause.not_json g.T.TakeJson.taken) start c.args.self.now.number
+            c.args.self.now.room c.args.value.now so_far.used c.next.new.line.items so_far.follows so_far.none so_far.whole line.0),
+      )
+]

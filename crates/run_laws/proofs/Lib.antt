@@ -1,0 +1,3 @@
+pub mod GoesLemmas
+pub mod PartsLemmas
+pub mod TogetherLemmas
