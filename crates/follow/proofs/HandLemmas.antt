@@ -205,7 +205,8 @@ module _ (k : KeptValue) (base : ℕ) (trace : Reading) (one two three : Writer)
                   ∙ ap (λ (t : List ℕ). one.taken ++ (text_of lines.pieces ++ t)) (last text end is);
               verdict = is.verdict ∙ ap verdict_of lines.same;
               whole = is.whole ∙ ap (λ (b : ℕ). is_whole (is_some end.carry) b begun l.log) low;
-              carry = subst (λ (m : ℕ). IfSome end.carry (λ s. IsHandedOn m l.log (string_bytes s))) same_count is.carry;
+              carry = subst (λ (b : ℕ). IfSome end.carry (λ s. IsHandedOn b (k.lines + line_count came) l.log (string_bytes s))) low
+                  (subst (λ (m : ℕ). IfSome end.carry (λ s. IsHandedOn f.base m l.log (string_bytes s))) same_count is.carry);
             },
           ),
         );

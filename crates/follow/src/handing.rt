@@ -1,6 +1,6 @@
 //! A run that begins behind a log, and hands on.
 
-ghost use Rattle.std.specs.Prelude.{◌==◌, ◌&&◌, ◌||◌, ◌≡◌, ◌≤◌, ◌+◌, ◌++◌, ◌∷◌, [], drop, length, IfErr, IfOk, IfSome, OnOk, string_bytes};
+ghost use Rattle.std.specs.Prelude.{◌==◌, ◌&&◌, ◌||◌, ◌≡◌, ◌≤◌, ◌+◌, ◌++◌, ◌∷◌, [], drop, length, IfErr, IfOk, IfSome, OnOk, Some, string_bytes};
 ghost use Rattle.std.specs.List.{flat_map};
 ghost use Rattle.trace_lines.specs.Placed.{AreInPlace};
 ghost use Rattle.trace_lines.specs.Values.{TraceValue, next_line};
@@ -25,7 +25,7 @@ use crate::follower::Follower;
 use crate::following::follow_lines;
 use crate::heartbeat::push_number;
 use audit::{AuditFault, Verdict};
-use carry::write_carry;
+use carry::{Carry, write_carry};
 use devices::{Sink, Source};
 use findings::{Finding, push_last_lines};
 use runs::{DeclaredLine, KeptLog, hand_on};
@@ -46,8 +46,8 @@ pub struct RunEnd {
     pub carry: Option<String>,
 }
 
-/// What a run hands on: the base of its carry is up to `oldest`, or is its log's first commit, and `before` is the
-/// checksum of the carry that it began with.
+/// What a run hands on: the base of its carry is up to `oldest`, or is the one that it began with, or its log's first
+/// commit that no change of the rules makes, and `before` is the checksum of the carry that it began with.
 #[derive(Clone, Copy)]
 pub struct Handing<'a> {
     pub oldest: u64,
@@ -156,16 +156,32 @@ fn run_text(
     Ok(text)
 }
 
-/// The timestamp up to which the base of a log's carry may be.
-fn last_base(trace: &Trace, oldest: u64) -> u64 {
-    match trace.chains().commits().first() {
-        Some(first) => oldest.max(*first),
-        None => oldest,
+/// The first commit that no change of the rules makes.
+fn first_store(trace: &Trace, declared: &[DeclaredLine]) -> Option<u64> {
+    let times = trace.chains().commits();
+    // bounded by the square of the declarations, which are 4,096 at most
+    for c in 0..times.len() {
+        let line = trace.commit_line(c);
+        if !declared.iter().any(|one| one.line == line) {
+            return Some(times[c]);
+        }
     }
+    None
 }
 
-/// The text of a carry of a log behind so many lines, where one is asked for, and it has a base that is not below this
-/// one.
+/// A carry, where its base is not below another one.
+fn from_base<'a>(base: u64, carry: Option<Carry<'a>>) -> Option<Carry<'a>>
+    ensures { IfSome result (λ c. (carry ≡ Some c) × (base ≤ c.base)) }
+{
+    let carry = carry?;
+    if carry.base < base {
+        return None;
+    }
+    Some(carry)
+}
+
+/// The text of a carry of a log behind so many lines, where one is asked for, and the log has a base that is not below
+/// this one. It is the last that may be, up to the greatest of this base, the first commit and what is asked for.
 fn handed_text(
     alloc: Global,
     trace: &Trace,
@@ -180,16 +196,12 @@ fn handed_text(
     let Some(handing) = handing else {
         return Ok(None);
     };
-    match hand_on(
-        alloc,
-        trace,
-        declared,
-        lines,
-        last_base(trace, handing.oldest),
-        handing.before,
-    )? {
-        Some(carry) if base <= carry.base => Ok(Some(write_carry(alloc, &carry)?)),
-        _ => Ok(None),
+    let first = first_store(trace, declared).unwrap_or(0);
+    let oldest = handing.oldest.max(base).max(first);
+    let carry = hand_on(alloc, trace, declared, lines, oldest, handing.before)?;
+    match from_base(base, carry) {
+        Some(carry) => Ok(Some(write_carry(alloc, &carry)?)),
+        None => Ok(None),
     }
 }
 

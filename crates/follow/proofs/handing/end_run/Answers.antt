@@ -35,9 +35,9 @@ returns g c =
         c.is_some.ensures,
         ap (λ (e : RunEnd). e.carry) says.1,
       ) refl;
-      carry = subst (λ o. IfSome o (λ s. IsHandedOn (c.args.start.lines + c.args.read) c.args.log.log (string_bytes s)))
+      carry = subst (λ o. IfSome o (λ s. IsHandedOn f.base (c.args.start.lines + c.args.read) c.args.log.log (string_bytes s)))
           (sym (ap (λ (e : RunEnd). e.carry) says.1))
-          (subst (λ (n : ℕ). IfSome c.in_ok-carry.carry (λ s. IsHandedOn n c.args.log.log (string_bytes s))) sum
-          (subst (λ (t : TraceValue). IfSome c.in_ok-carry.carry (λ s. IsHandedOn c.in-Some.lines t (string_bytes s)))
+          (subst (λ (n : ℕ). IfSome c.in_ok-carry.carry (λ s. IsHandedOn f.base n c.args.log.log (string_bytes s))) sum
+          (subst (λ (t : TraceValue). IfSome c.in_ok-carry.carry (λ s. IsHandedOn f.base c.in-Some.lines t (string_bytes s)))
           one c.in_ok-carry.ensures));
     }) c.tell.ensures

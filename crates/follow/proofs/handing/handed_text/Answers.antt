@@ -6,12 +6,14 @@ use Rattle.follow.proofs.handing.handed_text.Goals as goal
 
 pub returns-in_ok-write_carry-in-Some-2 : goal.returns-in_ok-write_carry-in-Some-2
 returns-in_ok-write_carry-in-Some-2 c =
-    let of = rw c.in-Some-2.is at c.in_ok-carry.ensures.carry in
-    let names = rw c.in-Some-2.is at c.in_ok-carry.ensures.names in
+    let from = rw c.in-Some-2.is at c.from_base.ensures in
+    let of = rw from.0 at c.in_ok-carry.ensures.carry in
+    let names = rw from.0 at c.in_ok-carry.ensures.names in
     record {
       carry = carry_value c.in-Some-2.carry;
       read = ap carry_at c.in_ok-write_carry-in-Some-2.ensures.text
           ∙ carry_again (carry_value c.in-Some-2.carry) c.in_ok-write_carry-in-Some-2.ensures.form;
       of = of;
+      rises = from.1;
       counted = names.0;
     }
