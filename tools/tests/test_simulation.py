@@ -194,7 +194,8 @@ class OfTheWhole(Case):
                           mock.patch("new_enemy_tools.recording.reader.UNKNOWN", "none"))
 
     def test_a_call_that_is_not_known_and_passes(self):
-        self.assert_found("a check is neither in the log nor in a gap", mock.patch("new_enemy_tools.recording.reader.UNKNOWN", "none"))
+        self.assert_found("a check is neither in the log nor in a gap", mock.patch("new_enemy_tools.recording.reader.UNKNOWN", "none"), seeds=(
+            855, 1009, 1105))
 
     def test_a_page_that_is_not_full_taken_for_the_last(self):
         """What it does not show counts as if it had not come."""
