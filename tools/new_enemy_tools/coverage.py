@@ -122,7 +122,7 @@ class Coverage(NamedTuple):
         if self.uncounted:
             yield "gaps in which nobody counted what was asked: %d" % self.uncounted
         if self.open:
-            yield "the log is open: its last file%s is not closed, so more may follow" % ("" if self.last_file is None else ", %d," % self.last_file)
+            yield "the log is open: its last file%s is not closed, or full, so more may follow" % ("" if self.last_file is None else ", %d," % self.last_file)
         if self.unknown is not None:
             yield "not known what was left out: %s" % plain(self.unknown)
 

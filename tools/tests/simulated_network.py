@@ -248,6 +248,9 @@ class Pipe:
         """Whole messages come, where the keeper reads."""
         if self.keeper.is_busy or self.is_broken:
             return
+        if self.world.is_held_up:
+            self.world.own(2, 4, self._come)
+            return
         at, rest, self.coming = 0, self.data, b""
         while len(rest) >= at + SIZE.size and len(rest) >= (behind := at + SIZE.size + SIZE.unpack_from(rest, at)[0]):
             at = behind

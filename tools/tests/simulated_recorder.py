@@ -14,6 +14,7 @@ import tempfile
 import types
 from collections import Counter, deque
 from contextlib import ExitStack
+from functools import partial
 from heapq import heappop
 from random import Random
 from unittest import mock
@@ -22,8 +23,9 @@ from urllib.parse import urlsplit
 from new_enemy_tools.importing.chained import in_chain
 from new_enemy_tools.importing.refusals import Refusals
 from new_enemy_tools.importing.times import nanoseconds, text_of_time
-from new_enemy_tools.recording import bodies, core, http_reading, keeper, log_files, messages, openfga_feed, reader, relay
+from new_enemy_tools.recording import beside, bodies, core, http_reading, keeper, log_files, messages, openfga_feed, reader, relay
 from new_enemy_tools.recording.asking import FeedFault
+from new_enemy_tools.recording.beside import Word
 from new_enemy_tools.recording.core import Faulty
 from new_enemy_tools.recording.keeper import Keeper, Settings
 from new_enemy_tools.recording.lines import time_text
@@ -43,7 +45,7 @@ STRANGE = (b"X: y\nContent-Length: %d", b"X: y\rContent-Length: %d", b"Content-L
 WIRES = 3
 OFTEN = {"strange": 0.2, "loose": 0.1, "odd": 0.1, "long": 0.05, "fails": 0.05, "cut": 0.05, "ends": 0.05}
 # How many bytes of an answer are kept, and may wait at each place, in place of megabytes; how late things are given up, in steps.
-BODY, ROOM, PIPE, AGAIN, LAST = 2000, 1500, 500, 20, 60
+BODY, ROOM, PIPE, AGAIN, LAST, LATER = 2000, 1500, 500, 20, 60, 20
 STARVED = "the service can't be asked: Too many open files"
 # How many files there may be open beside one for each client.
 SPARE = 4
@@ -121,8 +123,9 @@ class Check(Asked, Thing):
 class Proxy:
     """A proxy's process."""
 
-    def __init__(self, most):
-        self.teller, self.again_at = Teller(None), None
+    def __init__(self, most, folder, now):
+        self.teller, self.again_at, self.word, self.starts = Teller(None), None, Word(folder), 0
+        self.word.leave(now)
         self.relay = Relay(urlsplit("http://service"), self.teller, call_of, most)
         self.relay.server = Nobody()
 
@@ -130,11 +133,11 @@ class Proxy:
 class Kept(Keeper):
     """A keeper without its threads, and what it knows, as a world has it."""
 
-    def __init__(self, world):
+    def __init__(self, world, word, since):
         shape = world.shape
         seconds = [one / 1e9 for one in (shape.hold, shape.poll * STEP, shape.stale)]
         settings = Settings("openfga", "", world.folder, STORE, None, False, *seconds, world.random.choice((900, 1 << 20)), 3600.0,
-                            shape.told_horizon / 1e9, shape.back / 1e9)
+                            shape.told_horizon / 1e9, shape.back / 1e9, word=word, since=since)
         service = OpenFga(STORE, shape.stale, shape.hold, shape.told_horizon, False, world.ignores)
         super().__init__(settings, service, openfga_feed.OpenFgaFeed(settings, Source(world)), Pipe(world, self))
         self.world, self.inbox = world, deque()
@@ -152,7 +155,7 @@ class Kept(Keeper):
         """Takes what has come."""
         if not self.is_open and self.inbox and isinstance(self.inbox[-1], Bye):
             self.world.own(LAST, LAST + 1, self._give_up)
-        if self.is_busy or not self.is_open:
+        if self.is_busy or not self.is_open or self.world.is_held_up:
             return
         self.is_busy = True
         while self.inbox:
@@ -167,6 +170,13 @@ class Kept(Keeper):
         if self.end.data or self.end.is_ended and not self.core.is_over:
             self.end.move()
 
+    def look(self):
+        """Takes the words of others."""
+        if self.is_open and not self.is_busy:
+            self.is_busy = True
+            self._take_beside()
+            self.is_busy = False
+
     def _give_up(self):
         """Another keeper has the folder still."""
         if self in self.world.nexts:
@@ -175,8 +185,9 @@ class Kept(Keeper):
             self._leave()
 
     def _note(self, message):
-        """Of a write that passed it is known that it came, when its answer is told."""
-        thing = self.world.writes.get(message.clock) if isinstance(message, Ended) and message.call == "write" and message.status == 200 else None
+        """Of a write that passed it is known that it came, when its answer is told, of which all can be read."""
+        is_write = isinstance(message, Ended) and message.call == "write" and message.status == 200 and message.response is not None
+        thing = self.world.writes.get(message.clock) if is_write else None
         if thing is not None and self.core.is_ready and thing.began >= self.first:
             self.known.append((message.clock, thing.committed))
             self.whole.add(thing.committed)
@@ -234,11 +245,13 @@ class Whole(World):
         self.often = {name: has_troubles and self.random.choice((0, 0, often)) for name, often in OFTEN.items()}
         # more troubles, of which some runs have none; and how often the ends of lines are bare
         self.more = Random("more %d" % seed)
+        # kills between two touches of the files, of a keeper that waits, and of a proxy whose keeper does not keep up
+        self.moments, self.dies_in = Random("moments %d" % seed), 0
         self.often_bare = self.more.choice((0, 0, 0.1)) if has_troubles else 0
         self.wires, self.transports, self.soon, self.found = [], [], [], []
         # the proxies that run, the last of which gets all new clients; the keeper that has the folder, and those that wait for it
         self.proxies, self.kept, self.nexts = [], None, deque()
-        self.is_full = self.is_starved = self.tears = self.is_ending = self.has_lost_keeper = self.is_left_open = False
+        self.is_full = self.is_starved = self.tears = self.is_ending = self.has_lost_keeper = self.is_left_open = self.is_held_up = False
         self.pipe = PIPE if has_troubles else 1 << 20
         # how many changes the service gives at most, and how often it gives none although there are some
         self.empties = Random("pages %d" % seed)
@@ -251,15 +264,19 @@ class Whole(World):
     def run(self):
         nested, top = Clock(self, lambda seconds: self.advance(3 * STEP)), Clock(self, self._rest)
         rooms = {messages: ("ROOM", ROOM), core: ("ROOM", 10 * ROOM), bodies: ("BODY", BODY), http_reading: ("BODY", BODY), keeper: ("LAST", -1.0),
-                 openfga_feed: ("PAGE", self.shape.page), log_files: ("LATER", 10 * STEP / 1e9)}
+                 openfga_feed: ("PAGE", self.shape.page), log_files: ("LATER", LATER * STEP / 1e9)}
         with ExitStack() as stack:
-            for module in (keeper, reader, messages, log_files, openfga_feed):
+            for module in (keeper, reader, messages, log_files, beside, openfga_feed):
                 stack.enter_context(mock.patch.object(module, "time", top if module is openfga_feed else nested))
             for module, (name, value) in rooms.items():
                 stack.enter_context(mock.patch.object(module, name, value))
             stack.enter_context(mock.patch.object(core, "TOGETHER", 10 * STEP))
+            stack.enter_context(mock.patch.object(keeper, "TICK", 2 * STEP / 1e9))
             stack.enter_context(mock.patch.object(log_files, "_write_all", self._write_all))
-            stack.enter_context(mock.patch.object(log_files, "os", types.SimpleNamespace(**{**vars(os), "open": self._open})))
+            touched = {name: partial(self._touch, getattr(os, name)) for name in ("remove", "replace", "ftruncate", "fsync")}
+            stack.enter_context(mock.patch.object(log_files, "os", types.SimpleNamespace(**{**vars(os), "open": self._open, **touched})))
+            # A proxy has spare files for its word.
+            stack.enter_context(mock.patch.object(beside, "os", types.SimpleNamespace(**{**vars(os), "remove": touched["remove"]})))
             stack.enter_context(mock.patch.object(relay.sys, "stderr", io.StringIO()))
             stack.enter_context(mock.patch.object(relay.asyncio, "get_running_loop", lambda: self))
             self._begin_store()
@@ -277,9 +294,11 @@ class Whole(World):
         for work in self.random.choices((self._kill_keeper, self._tear, self._kill_proxy, self._end_proxy, self._fill, self._kill_all),
                                         k=self.random.choice((0, 1, 2, 4)) if self.has_troubles else 0):
             self.later(5, self.shape.length + 20, work)
-        for work in self.more.choices((self._starve, self._take_over), k=self.more.choice((0, 0, 1, 2)) if self.has_troubles else 0):
-            self.under_way += 1
-            self._put(self.now + STEP * self.more.randint(5, self.shape.length + 20), self._happens, work)
+        moments = self._die_soon, self._hold_up, self._kill_waiting, self._take_over
+        for random, works, counts in (self.more, (self._starve, self._take_over), (0, 0, 1, 2)), (self.moments, moments, (0, 0, 1, 3)):
+            for work in random.choices(works, k=random.choice(counts) if self.has_troubles else 0):
+                self.under_way += 1
+                self._put(self.now + STEP * random.randint(5, self.shape.length + 20), self._happens, work)
         self.own(0, 0, self._beat)
 
     def advance(self, length):
@@ -311,7 +330,20 @@ class Whole(World):
         """Also until a reading has begun behind all."""
         return bool(self.nexts) or not self.core.is_ready or self.kept.last_began <= self.quiet_since + self.shape.horizon or super()._has_more()
 
+    def _touch(self, work, *given):
+        """Something is done to the files; it may be the last that the keeper does, or what it does no more."""
+        if self.dies_in:
+            self.dies_in -= 1
+            if not self.dies_in:
+                if self.moments.random() < 0.5:
+                    work(*given)
+                raise Killed
+        return work(*given)
+
     def _write_all(self, descriptor, data):
+        self._touch(self._write_some, descriptor, data)
+
+    def _write_some(self, descriptor, data):
         if self.is_full or self.tears:
             os.write(descriptor, data[:self.random.randint(0, len(data) - 1)])
             if self.tears:
@@ -361,14 +393,15 @@ class Whole(World):
 
     def _start(self):
         """A recorder begins: its proxy listens, and its keeper waits for the folder."""
-        self.proxies.append(Proxy(self.most))
+        self.proxies.append(Proxy(self.most, self.folder, self.wall()))
         self._start_keeper(self.proxies[-1])
 
     def _start_keeper(self, proxy):
         proxy.again_at = self.now + AGAIN * STEP if self.is_starved else None
         if self.is_starved:
             return
-        kept = Kept(self)
+        kept = Kept(self, proxy.word.path, proxy.word.start if proxy.starts else None)
+        proxy.starts += 1
         self.nexts.append(kept)
         proxy.teller.end = kept.end
 
@@ -414,11 +447,13 @@ class Whole(World):
         except (Killed, LogFault):
             self._lose_keeper(kept)
 
-    def _lose_keeper(self, kept):
-        self.has_lost_keeper = self.is_left_open = True
+    def _lose_keeper(self, kept, had_folder=True):
+        self.has_lost_keeper = True
+        self.is_left_open |= had_folder
         for proxy in self.proxies:
             if proxy.teller.end is kept.end:
                 kept.end.is_broken = True
+                proxy.word.leave(self.wall())
                 proxy.teller.forget()
                 proxy.again_at = self.now + AGAIN * STEP
 
@@ -430,11 +465,10 @@ class Whole(World):
                 self.faulty.append("more waits for the keeper than there is room for")
             if proxy.again_at is not None and self.now > proxy.again_at:
                 self._start_keeper(proxy)
-        if self.kept is not None and self.kept.is_open and not self.kept.is_busy:
-            self.kept._take_beside()
-            self.core.tick(self._at())
+        if self.kept is not None and self.kept.is_open and not self.kept.is_busy and not self.is_held_up:
             self.kept.inbox.append(Beat(0))
             self.kept.work()
+            self.kept.look()
 
     def _kill_keeper(self):
         if self.kept is not None and self.kept.is_open:
@@ -443,6 +477,26 @@ class Whole(World):
     def _tear(self):
         """It is killed when it writes next, in the midst of that."""
         self.tears = True
+
+    def _die_soon(self):
+        """It is killed at one of the next times that it touches its files, before or behind that."""
+        self.dies_in = self.moments.randint(1, 6)
+
+    def _hold_up(self):
+        """The keeper gets no processor for a while; behind that, or before, its proxy may be killed."""
+        self.is_held_up = True
+        self.later(2, 60, lambda: setattr(self, "is_held_up", False))
+        if self.moments.random() < 0.5:
+            self.later(2, 60, self._kill_proxy)
+
+    def _kill_waiting(self):
+        """A keeper that waits for the folder is killed, and its proxy with it or not."""
+        if self.nexts and self.kept is not None:
+            kept = self.nexts.pop()
+            self._lose_keeper(kept, False)
+            kept.let_go()
+            if self.moments.random() < 0.5:
+                self._kill_proxy()
 
     def _fill(self):
         self.is_full = True
@@ -456,7 +510,7 @@ class Whole(World):
     def _open(self, *given):
         if self.is_starved:
             raise OSError(errno.EMFILE, "Too many open files")
-        return os.open(*given)
+        return self._touch(os.open, *given)
 
     def _take_over(self):
         """A second proxy gets all new clients, while the first goes on with those that it has, until it is ended or killed; or the second is
@@ -471,6 +525,7 @@ class Whole(World):
         proxy = proxy or self.proxies and self.proxies[-1]
         if proxy in self.proxies and not self.is_ending:
             self.proxies.remove(proxy)
+            proxy.word.close()
             for one in [one for one in self.transports if one.wire.proxy is proxy]:
                 self.transports.remove(one)
                 one.kill()
@@ -503,6 +558,7 @@ class Whole(World):
             closing.send(None)
         except StopIteration:
             self.proxies.remove(proxy)
+        proxy.word.close()
         teller = proxy.teller
         if teller.end is None:
             # There is no keeper that could count.
@@ -676,7 +732,7 @@ class OfWhole(Verdict):
         if world.is_left_open:
             # By a clock that was set nobody knows when the last line was written.
             last = max((nanoseconds(row["time"]) for row in self.rows if "time" in row and row["event"] != "write"), default=0)
-            self.spans.append((0 if world.set_by else last - world.shape.hold - 11 * STEP, 1 << 62))
+            self.spans.append((0 if world.set_by else last - world.shape.hold - (LATER + 1) * STEP, 1 << 62))
 
     def _take(self, row):
         super()._take(row)

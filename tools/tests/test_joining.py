@@ -124,6 +124,15 @@ class Parts(Case):
         showing = lines(change(1, "a"), check(1, 6, version="v"), change(2, "b"))
         self.assertEqual(events(joined(showing, saving))[2:], [("write", 1), ("write", 2), ("content", 2), ("check", 1)])
 
+    def test_a_log_that_is_open_lacks_what_its_recorder_let_wait(self):
+        """By what its first line says."""
+        for hold, since in (None, "01:29"), (60, "00:58"):
+            late = lines(check(0, 59, time="2024-01-01T00:02:00Z"))
+            late[0] = {**late[0], "hold": hold}
+            given = [Given("log", lambda late=late: (Row("log", number, row) for number, row in enumerate(late, 1)), False)]
+            (gap,) = [row for row in Join(given, 0).lines() if row["event"] == "gap"]
+            self.assertEqual(gap["from"], "2024-01-01T00:%s.000000Z" % since)
+
     def test_orders_that_differ(self):
         """The first log has a before b, and the second b before a: what it saw of b alone is no state of the first."""
         def other(goal):

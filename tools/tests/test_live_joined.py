@@ -26,7 +26,7 @@ class Simulated(Case):
     def test_no_right_reply_is_accused_and_no_wrong_one_passes(self):
         recorded = lost = rounds = begun = 0
         for seed in range(SEEDS):
-            with mock.patch("new_enemy_tools.recording.live_joined.WAITED", WAITED * (seed % 2)):
+            with mock.patch("new_enemy_tools.recording.sketches.WAITED", WAITED * (seed % 2)):
                 world, verdict = run_live(seed)
             self.assertEqual(verdict.faults(), [], "seed %d" % seed)
             recorded, lost = recorded + len(verdict.entries), lost + verdict.lost

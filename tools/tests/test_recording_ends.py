@@ -1,12 +1,17 @@
 """How tools/record ends: each check whose answer was given stands in the log, or a gap of the log counts it."""
+import http.client
+import json
 import os
 import signal
 import threading
+import time
 from collections import Counter
 
+from new_enemy_tools.importing.times import nanoseconds
 from new_enemy_tools.recording.keeper import BESIDE
+from new_enemy_tools.recording.openfga import OTHER_STORE
 from tests.recorded import READY, Client, Recorded
-from tests.stand_in_openfga import STORE
+from tests.stand_in_openfga import OTHER, STORE
 from tests.support import TOOLS
 from tests.test_recording_gaps import Failing, keeper_of
 from tests.test_recording_openfga import NEWEST, key
@@ -19,6 +24,15 @@ DID_NOT_RUN, KILLED = "the recorder did not run", "the recorder was killed"
 RECORD = os.path.join(TOOLS, "record")
 
 
+def is_alive(number):
+    """Whether a process runs; one that is dead may have nobody who waits for it."""
+    try:
+        with open("/proc/%d/stat" % number, encoding="utf-8") as file:
+            return file.read().rpartition(")")[2].split()[0] != "Z"
+    except OSError:
+        return False
+
+
 class Ending(Failing):
     RECORD = RECORD
 
@@ -28,7 +42,7 @@ class Ending(Failing):
         for row in self.of_kind("gap"):
             found[row["reason"]] += row.get("lost", 0)
         del found["the log begins"]
-        return found
+        return +found
 
     def users(self):
         return {row["goal"][4] for row in self.events() if row["event"] in ("check", "content")}
@@ -207,7 +221,7 @@ class Killed(Ending):
         self.assertIn(told + "the log has gaps: a verdict says nothing of what was asked in them\n", self.import_log())
         self.found()
         self.put("report.txt", "\n".join(self.said_of_audit) + "\n")
-        self.assertIn("the log is open: its last file, 1, is not closed, so more may follow\n",
+        self.assertIn("the log is open: its last file, 1, is not closed, or full, so more may follow\n",
                       self.run_tool("report", "--form", "text", "trace.jsonl", "report.txt").stdout)
 
     def test_the_next_recorder_says_it(self):
@@ -256,12 +270,12 @@ class Killed(Ending):
             self.ask(user)
         self.wait_for(lambda: self.of_kind("closed"))
         self.end(wrong)
-        self.assertEqual((self.users(), self.lost()), ({"first"}, Counter({KILLED: 0, DID_NOT_RUN: 3})))
+        self.assertEqual((self.users(), self.lost()), ({"first"}, Counter({DID_NOT_RUN: 3})))
         self.import_log()
         self.control("go-on")
         recorder = self.start_recorder()
         self.end(recorder)
-        self.assertEqual(self.lost(), Counter({KILLED: 0, DID_NOT_RUN: 3}))
+        self.assertEqual(self.lost(), Counter({DID_NOT_RUN: 3}))
         self.assertEqual(len(self.of_kind("closed")), 3)
         self.assert_once()
         self.import_log()
@@ -276,6 +290,130 @@ class Killed(Ending):
         self.end(recorder)
         self.assertIn("record: the log was never begun; requests that passed and stand in no log: 1\n", self.get("said"))
         self.assertEqual(self.files(), [])
+
+
+class Untold(Ending):
+    """What nobody can write down any more, since whoever knew of it was killed, is told by the next recorder, or by the one beside it."""
+
+    def setUp(self):
+        super().setUp()
+        self.answered = {}
+
+    def ask(self, user, *words, **headers):
+        super().ask(user, *words, **headers)
+        self.answered[user] = time.time_ns()
+
+    def assert_told(self):
+        """Each check that was answered stands in the log, or was answered in a gap."""
+        gaps = [(nanoseconds(row.get("from")) or 0, nanoseconds(row["to"])) for row in self.of_kind("gap")]
+        for user in set(self.answered) - self.users():
+            self.assertTrue(any(start <= self.answered[user] <= end for start, end in gaps), (user, self.answered[user], self.of_kind("gap")))
+
+    def kill(self, *numbers):
+        for one in numbers:
+            os.kill(one, signal.SIGKILL)
+        self.wait_for(lambda: not any(is_alive(one) for one in numbers))
+
+    def gap(self):
+        """Something that is a gap of the log at once, without the changes; some time behind the one before."""
+        time.sleep(1.5)
+        self.assertEqual(self.client.ask("/stores/%s/check" % OTHER, {"tuple_key": key("user:a", "viewer", "document:d0")})[0], 200)
+
+    def gap_in_a_file(self):
+        """The same, when it has a file of its own."""
+        count = len(self.files())
+        self.gap()
+        self.wait_for(lambda: len(self.files()) > count and self.of_kind("gap")[-1]["reason"] == OTHER_STORE, lambda: self.get("said"))
+
+    def block(self):
+        """The last file is full, and there can be no next one."""
+        self.blocked = self.path("log/%06d.jsonl" % (len(self.files()) + 1))
+        os.mkdir(self.blocked)
+
+    def wait_blocked(self):
+        self.wait_for(lambda: "cannot write the log" in self.get("said"), lambda: self.get("said"))
+
+    def files(self, folder="log"):
+        return [name for name in super().files(folder) if os.path.isfile(self.path(name))]
+
+    def go_on(self):
+        """Kills the recorder; another goes on in the folder, and ends."""
+        self.kill(self.recorder.pid, keeper_of(self.recorder))
+        os.rmdir(self.blocked)
+        self.control("go-on")
+        self.end(self.start_recorder("--hold", "0.2"))
+        self.assertNotIn("is not closed", self.import_log())
+
+    def test_a_proxy_whose_keeper_is_behind(self):
+        self.begin()
+        keeper = keeper_of(self.recorder)
+        os.kill(keeper, signal.SIGSTOP)
+        for number in range(40):
+            # More than the socket to the keeper takes.
+            body = json.dumps({"tuple_key": key("user:%d" % number, "viewer", "document:d0")}).encode() + b" " * 100_000
+            connection = http.client.HTTPConnection("127.0.0.1", self.port, timeout=READY)
+            connection.request("POST", "/stores/%s/check" % STORE, body, {"Content-Type": "application/json"})
+            self.assertEqual(connection.getresponse().status, 200)
+            self.answered["%d" % number] = time.time_ns()
+            connection.close()
+        self.kill(self.recorder.pid)
+        os.kill(keeper, signal.SIGCONT)
+        self.wait_for(lambda: not is_alive(keeper))
+        self.assertEqual(self.events()[-1]["event"], "closed")
+        self.assertIn("0", self.users())
+        self.assertNotIn("39", self.users())
+        self.assert_told()
+        self.end(self.start_recorder())
+        self.assert_told()
+        self.import_log()
+
+    def test_a_full_file_without_a_next_one(self):
+        """What waited then had its answer before the last line of that file, by as long as that recorder let it wait, and not the next."""
+        self.begin("--file-bytes", "1", is_last=True)
+        self.ask("waits")
+        self.gap_in_a_file()
+        self.gap_in_a_file()
+        self.block()
+        self.gap()
+        self.wait_blocked()
+        told = "gap at the end: %s is full, and no file follows, since it is still to come or the recorder was killed\n" % self.files()[-1]
+        self.assertIn(told + "the log has gaps: a verdict says nothing of what was asked in them\n", self.import_log())
+        self.go_on()
+        self.assertNotIn("waits", self.users())
+        self.assert_told()
+
+    def test_a_word_of_what_passed_that_is_taken_and_not_written(self):
+        self.begin("--file-bytes", "1", "--hold", "0.2")
+        waiting, first = self.start_recorder(is_ready=False, said="waiting"), self.client
+        self.client = Client(self.port)
+        self.addCleanup(self.client.close)
+        self.ask("passes")
+        self.client = first
+        time.sleep(3)
+        self.gap_in_a_file()
+        self.block()
+        self.end(waiting, 5)
+        self.wait_blocked()
+        self.go_on()
+        self.assert_told()
+        self.assertEqual(self.lost()[BESIDE], 1)
+
+    def test_a_recorder_that_is_killed_while_it_waits_for_the_folder(self):
+        """With its keeper, which alone knew what passed."""
+        self.begin("--hold", "0.2")
+        waiting, first = self.start_recorder(is_ready=False, said="waiting"), self.client
+        self.client = Client(self.port)
+        self.addCleanup(self.client.close)
+        self.ask("passes")
+        time.sleep(1)
+        self.kill(waiting.pid, keeper_of(waiting))
+        self.client = first
+        self.ask("last")
+        self.end(self.recorder)
+        self.assertIn("last", self.users())
+        self.assert_told()
+        self.assertEqual([name for name in os.listdir(self.path("log")) if name.startswith("beside")], [])
+        self.import_log()
 
 
 class AtOnce(Ending):

@@ -21,9 +21,10 @@ from new_enemy_tools.importing.reading import Bad
 from new_enemy_tools.importing.service import Answer
 from new_enemy_tools.importing.times import nanoseconds
 from new_enemy_tools.recording.asking import FeedFault
-from new_enemy_tools.recording.core import FOREVER, FULL, SET, Begun, Core, Now
+from new_enemy_tools.recording.beside import Beside, Word, Words
+from new_enemy_tools.recording.core import FOREVER, FULL, SET, UNTOLD, Begun, Core, Now
 from new_enemy_tools.recording.http_reading import BODY, Head, Messages, Strange, path_of
-from new_enemy_tools.recording.keeper import Settings
+from new_enemy_tools.recording.keeper import BESIDE, Keeper, Settings
 from new_enemy_tools.recording.log_files import LATER, InUse, Left, LogFault, LogFiles, Place
 from new_enemy_tools.recording.lines import gap_line, line, write_line
 from new_enemy_tools.recording.messages import UNKNOWN, Beat, Bye, Ended, Lost, Started, Teller, messages_from, packed
@@ -35,6 +36,7 @@ from new_enemy_tools.recording.spicedb import call_of as spicedb_call
 from new_enemy_tools.recording.spicedb_http import HttpSource
 from tests.support import Case
 
+SECOND = 10 ** 9
 SESSIONS = 300
 ANSWER = b"HTTP/1.1 200 OK\r\nContent-Type: application/json\r\n"
 
@@ -356,6 +358,58 @@ class Order(Case):
         gap = json.loads(next(iter(core.first)))
         self.assertEqual((gap["from"], gap["to"], gap["lost"]), ("1970-01-01T00:00:10.000000Z", "1970-01-01T00:00:21.000000Z", 3))
 
+    def ready(self):
+        """A core whose log goes on, ten seconds behind the beginning of both clocks; and the rows that it writes."""
+        core = Core(mock.Mock(late=mock.Mock(return_value=[]), doubts=()), 30)
+        core.now = Now(10 * SECOND, 10 * SECOND)
+        core.begin_log(Begun([], True, Place(None, 0, None)))
+        core.drained()
+        return core, lambda now=None: [json.loads(row) for row in core.drained(now).splitlines()]
+
+    def test_a_proxy_that_is_killed(self):
+        """What it had not told is a gap, from where all was told; also of a recorder that has no folder yet."""
+        core, rows = self.ready()
+        core.take(Beat(20 * SECOND), Now(20 * SECOND, 20 * SECOND))
+        core.take(Bye(0), Now(25 * SECOND, 25 * SECOND))
+        (gap,) = rows()
+        self.assertEqual([gap["reason"], nanoseconds(gap["from"]), nanoseconds(gap["to"])], [UNTOLD, 20 * SECOND, 25 * SECOND])
+        waits = Core(mock.Mock(), 30)
+        waits.take(Beat(20 * SECOND), Now(20 * SECOND, 20 * SECOND))
+        waits.take(Bye(0), Now(25 * SECOND, 25 * SECOND))
+        self.assertEqual(waits.gaps.take(), (0, 20 * SECOND))
+
+    def test_a_proxy_that_ends_in_order(self):
+        core, rows = self.ready()
+        for one in Bye(30 * SECOND), Bye(0):
+            core.take(one, Now(30 * SECOND, 30 * SECOND))
+        self.assertEqual(rows(), [])
+
+    def test_no_line_has_a_time_before_which_something_has_not_come(self):
+        """Where the recorder does not keep up; the gap of one that is killed begins before the last line."""
+        core, rows = self.ready()
+        core.take(Beat(20 * SECOND), Now(20 * SECOND, 20 * SECOND))
+        core.pass_elsewhere()
+        core.lose("why", 0)
+        core.tick(Now(90 * SECOND, 90 * SECOND))
+        found = rows()
+        self.assertEqual([(row["event"], nanoseconds(row["time"])) for row in found], [("gap", 20 * SECOND), ("elsewhere", 20 * SECOND)])
+
+    def test_what_goes_back_far_is_told_at_once(self):
+        core, rows = self.ready()
+        core.lose("first", 0)
+        rows()
+        for since, told in (19 * SECOND + 1, []), (2 * SECOND, ["why"]):
+            core.take(Lost(since, 20 * SECOND, 1, "why"), Now(20 * SECOND, 11 * SECOND - 1))
+            self.assertEqual([row["reason"] for row in rows()], told)
+
+    def test_what_is_given_up_late_is_told_before_what_came_since(self):
+        core, rows = self.ready()
+        message = Ended(2, "check", "", 0, 60 * SECOND, 0, None, None, None, 200, None, None, None)
+        answers = [Answer(Relationship("d", "1", "v", "u", "a"), True, None)]
+        core.put_entries(message._replace(clock=11 * SECOND), answers, 9)
+        core.put_entries(message._replace(clock=60 * SECOND), answers, 0)
+        self.assertEqual([row["event"] for row in rows(Now(60 * SECOND, 60 * SECOND))], ["gap", "check"])
+
     def test_a_clock_that_is_set_is_told(self):
         """Around that, by either time, something may be lost when the recorder is killed; a clock that is read a little late was not set."""
         for wall in 50, 300:
@@ -472,6 +526,44 @@ class Files(Case):
             gaps = [json.loads(raw) for raw in file if b'"the recorder was killed"' in raw]
         self.assertEqual([nanoseconds(gap["from"]) for gap in gaps], [10 ** 11 - int((log.hold + LATER) * 1e9)])
 
+    def test_a_full_file_whose_recorder_was_killed_before_the_next(self):
+        """What waited had its answer up to so long before its last line as that recorder let it wait."""
+        log, _ = self.log(size=300, hold=60)
+        self.begin(log)
+        log.add(gap_line(0, 1000 * SECOND, "why", 1))
+        with mock.patch.object(log, "_open", side_effect=LogFault("no more files")), self.assertRaises(LogFault):
+            log.add(write_line(1, [], []) * 5)
+        os.close(log._lock)
+        log, left = self.log(hold=1)
+        self.assertEqual((left.was_killed, nanoseconds(left.time)), (True, (940 - int(LATER)) * SECOND))
+        core = Core(mock.Mock(), 1)
+        core.left, core.is_first, core.now = left, False, Now(2000 * SECOND, 0)
+        self.assertEqual(json.loads(core._gap_before(0, FOREVER))["reason"], "the recorder was killed")
+        log.close()
+        os.close(log._lock)
+        self.assertTrue(self.log()[1].was_killed)
+
+    def test_a_log_that_ended_in_order(self):
+        log, _ = self.log(hold=60)
+        self.begin(log)
+        log.add(gap_line(0, 1000 * SECOND, "why", 1))
+        log.close()
+        os.close(log._lock)
+        _, left = self.log()
+        self.assertEqual((left.was_killed, nanoseconds(left.time)), (False, 1000 * SECOND))
+
+    def test_a_recorder_that_is_killed_before_it_told_that_none_had_run(self):
+        """Its file has the first line alone, whose time is the end of the log before."""
+        log, _ = self.log()
+        self.begin(log)
+        log.add(gap_line(0, 1000 * SECOND, "why", 1))
+        log.close()
+        os.close(log._lock)
+        log, _ = self.log()
+        with mock.patch.object(log, "_put", side_effect=[None, LogFault("killed")]) as put, self.assertRaises(LogFault):
+            log.add(b"{}\n")
+        self.assertEqual(nanoseconds(json.loads(put.call_args_list[0][0][0])["time"]), 1000 * SECOND)
+
     def test_a_file_without_its_beginning_is_begun_anew(self):
         log, _ = self.log()
         log.add(line("rules", namespaces=[]))
@@ -511,6 +603,52 @@ class Files(Case):
     def test_a_gap_line(self):
         self.assertEqual(gap_line(None, 1_500_000_000, "why", 2), b'{"event":"gap","to":"1970-01-01T00:00:01.500000Z","reason":"why",'
                          b'"lost":2,"time":"1970-01-01T00:00:01.500000Z"}\n')
+
+
+class OfOthers(Case):
+    """Words in the folder of a log, of what passed other recorders."""
+
+    def keeper(self):
+        made = Keeper(Settings("openfga", "", self.room, None, None, False, 30, 1, 0, 1 << 20, 3600), mock.Mock(doubts=()), None, mock.Mock())
+        made.log = mock.Mock()
+        made.core.is_ready, made.core.place = True, Place(None, 0, None)
+        return made
+
+    def test_a_word_goes_when_the_log_has_what_it_says(self):
+        killed = self.keeper()
+        killed.words.leave(Beside(3, 10 * SECOND, 11 * SECOND))
+        killed.log.add.side_effect = KeyboardInterrupt
+        with self.assertRaises(KeyboardInterrupt):
+            killed._take_beside()
+        following = self.keeper()
+        following._take_beside()
+        gap = json.loads(following.log.add.call_args[0][0])
+        self.assertEqual((gap["reason"], gap["lost"], nanoseconds(gap["from"])), (BESIDE, 3, 10 * SECOND))
+        self.assertEqual(os.listdir(self.room), [])
+
+    def test_a_word_that_cannot_be_taken_away_is_told_once(self):
+        keeper = self.keeper()
+        keeper.words.leave(Beside(3, 10 * SECOND, 11 * SECOND))
+        with mock.patch("new_enemy_tools.recording.beside.os.remove", side_effect=PermissionError):
+            for _ in range(3):
+                keeper._take_beside()
+        self.assertEqual(keeper.core.lost, {BESIDE: 3})
+
+    def test_a_proxy_has_one_word_as_long_as_it_lives(self):
+        word, words = Word(self.path("log")), Words(self.path("log"))
+        for start in 5, 6:
+            word.leave(start)
+        self.assertEqual((words.found(), len(os.listdir(self.path("log")))), ({}, 1))
+        word.close()
+        (path, found), = words.found().items()
+        self.assertEqual((path, found.amount, found.start), (word.path, 0, 5))
+        self.assertGreater(found.end, 5)
+
+    def test_a_word_that_cannot_be_read_hides_no_other(self):
+        words = Words(self.room)
+        self.put("beside-1-a", "{")
+        words.leave(Beside(3, 1, 2))
+        self.assertEqual(list(words.found().values()), [Beside(3, 1, 2)])
 
 
 class Telling(Case):

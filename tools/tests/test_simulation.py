@@ -14,6 +14,7 @@ from new_enemy_tools.importing.events import Relationship
 from new_enemy_tools.importing.times import nanoseconds
 from new_enemy_tools.recording import bodies, core, http_reading, openfga_feed, relay
 from new_enemy_tools.recording.asking import FeedFault
+from new_enemy_tools.recording.beside import Word
 from new_enemy_tools.recording.core import Core, Now
 from new_enemy_tools.recording.lines import gap_line
 from new_enemy_tools.recording.log_files import LogFiles
@@ -193,7 +194,8 @@ class OfTheWhole(Case):
                           mock.patch("new_enemy_tools.recording.reader.UNKNOWN", "none"))
 
     def test_a_call_that_is_not_known_and_passes(self):
-        self.assert_found("a check is neither in the log nor in a gap", mock.patch("new_enemy_tools.recording.reader.UNKNOWN", "none"))
+        self.assert_found("a check is neither in the log nor in a gap", mock.patch("new_enemy_tools.recording.reader.UNKNOWN", "none"), seeds=(
+            855, 1009, 1105))
 
     def test_a_page_that_is_not_full_taken_for_the_last(self):
         """What it does not show counts as if it had not come."""
@@ -265,6 +267,20 @@ class OfTheWhole(Case):
         def gap(files, last, now):
             return gap_line(nanoseconds(last), now, "the recorder was killed")
         self.assert_found("a check is neither in the log nor in a gap", mock.patch.object(LogFiles, "_gap_of_killed", gap))
+
+    def test_a_proxy_that_is_killed_and_nothing_tells(self):
+        """While its keeper does not keep up."""
+        self.assert_found("a check is neither in the log nor in a gap", mock.patch.object(Core, "_lose_untold", lambda core: None), seeds=(2229,))
+
+    def test_a_full_file_that_looks_like_the_end(self):
+        """Where the keeper is killed before it has the next."""
+        kept = LogFiles.close
+        self.assert_found("a check is neither in the log nor in a gap", mock.patch.object(
+            LogFiles, "close", lambda files, is_full=False: kept(files)), seeds=(61, 3219, 3679))
+
+    def test_a_proxy_without_the_folder_that_leaves_no_word(self):
+        """And is killed with its keeper."""
+        self.assert_found("a client was refused, and no gap says so", mock.patch.object(Word, "leave", lambda word, start: None), seeds=(2757,))
 
     def test_a_line_that_was_cut_and_stays(self):
         """The file can't be read, or has other lines than its end tells."""

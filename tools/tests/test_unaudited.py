@@ -222,7 +222,7 @@ class Chains(Unaudited):
         names = self.chain(self.FIRST, [write(2), check(2), None])
         status, said = self.run_import("events", *names)
         self.assertEqual((status, self.run_import("events", "--allow-unaudited", "1", *names)[0]), (6, 0))
-        self.assertIn("the log is open: its last file, 2, is not closed, so more may follow\n", said)
+        self.assertIn("the log is open: its last file, 2, is not closed, or full, so more may follow\n", said)
 
     def test_a_chain_cannot_be_stepped_round(self):
         """What would make of a recorder's file a log of no chain, and an edited reply a clean one."""

@@ -121,7 +121,7 @@ def gathered(given: Namespace, base: Any, refusals: Refusals, progress: Progress
     is_later = before is not None
     lines.facts.numbers = Numbers(None if before is None else before.sequence, given.sequence_has_holes)
     if given.service == "events":
-        chained = in_chain(given.logs, refusals, None if goes_on is None else goes_on.chain)
+        chained = in_chain(given.logs, refusals, None if goes_on is None else goes_on.chain, goes_on is not None)
         if goes_on is not None:
             take_chain(goes_on, chained, refusals)
         lines.facts.is_chained = chained is not None

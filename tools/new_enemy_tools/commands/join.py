@@ -88,7 +88,8 @@ def read_log(folder: str, names: list[str], is_base: bool = False) -> Given:
             pass
     if refusals.refused:
         raise Refused(folder, refusals)
-    return Given(folder, rows, is_base or end_of(paths[-1]).said is not None)
+    end = end_of(paths[-1])
+    return Given(folder, rows, is_base or end.said is not None and not end.is_full)
 
 
 def base_of(sizes: list[tuple[str, int]]) -> Iterator[Row]:

@@ -18,11 +18,13 @@ class Head(NamedTuple):
 
 
 class End(NamedTuple):
-    """How many lines a file has before its last, and their hash; what the last line says of them, where it closes the file."""
+    """How many lines a file has before its last, and their hash; what the last line says of them, where it closes the file, and whether another
+    file is to follow."""
 
     lines: int
     found: str
     said: Optional[tuple[Any, ...]]
+    is_full: bool
 
 
 def _line(raw: bytes, kind: str) -> Optional[dict[str, Any]]:
@@ -53,12 +55,12 @@ def end_of(path: str) -> End:
             count += last.count(b"\n", 0, start)
             last = last[start:]
     closed = _line(last, "closed")
-    return End(count, made.hexdigest(), None if closed is None else (closed.get("count"), closed.get("sha256")))
+    return End(count, made.hexdigest(), None if closed is None else (closed.get("count"), closed.get("sha256")), bool((closed or {}).get("full")))
 
 
-def in_chain(paths: list[str], refusals: Refusals, after: Optional[list[Any]] = None) -> Optional[list[str]]:
+def in_chain(paths: list[str], refusals: Refusals, after: Optional[list[Any]] = None, goes_on: bool = False) -> Optional[list[str]]:
     """The files of a chain in their order, all checked; None where they are none of a chain, or not all of them. `after` is the number
-    and the hash of a file that they go on from."""
+    and the hash of a file that they go on from, and `goes_on` says that others will go on from them."""
     found = {path: head_of(path) for path in paths}
     heads = {path: head for path, head in found.items() if head is not None}
     if len(heads) < len(found):
@@ -78,6 +80,9 @@ def in_chain(paths: list[str], refusals: Refusals, after: Optional[list[Any]] = 
                 refusals.refuse(path, 1, "lines stand behind the one that closes the file; give the file as tools/record wrote it")
             refusals.open += 1
             refusals.gap(path, "gap at the end: %s is not closed, since it is still written or its recorder was killed" % path)
+        elif path == ordered[-1] and end.is_full and not goes_on:
+            refusals.open += 1
+            refusals.gap(path, "gap at the end: %s is full, and no file follows, since it is still to come or the recorder was killed" % path)
         elif path == ordered[-1]:
             refusals.note("end", "the log ends with file %d, which is closed" % heads[path].number)
         before = (path, heads[path].number, end.found if end.said else None)

@@ -18,6 +18,7 @@ from urllib.parse import SplitResult, urlsplit
 
 from new_enemy_tools.commands.running import Parser
 from new_enemy_tools.recording import openfga, spicedb
+from new_enemy_tools.recording.beside import Word
 from new_enemy_tools.recording.spicedb_http import HttpSource
 from new_enemy_tools.recording.core import Service
 from new_enemy_tools.recording.keeper import Feed, Keeper, Settings
@@ -165,6 +166,8 @@ class Proxy:
         self.metrics = MetricsServer(lambda: self.status.is_recording(time.monotonic()), self.numbers)
         self.relay = relay_of(settings, url, self.teller)
         self.keeper: Optional[subprocess.Popen[bytes]] = None
+        # what stands in the folder as long as no keeper has it, and when one was seen last
+        self.word, self.seen = Word(settings.folder), time.time_ns()
         self.start_at = 0.0
         self.is_over = False
 
@@ -178,7 +181,8 @@ class Proxy:
         its.close()
         assert self.keeper.stdin is not None
         # What the keeper needs to know, with the key, stands on no command line.
-        self.keeper.stdin.write(json.dumps(self.settings).encode())
+        settings = self.settings._replace(word=self.word.path, since=self.word.start if self.starts else None)
+        self.keeper.stdin.write(json.dumps(settings).encode())
         self.keeper.stdin.close()
         self.teller.end = mine
         self.starts += 1
@@ -203,9 +207,12 @@ class Proxy:
         """Starts the keeper where there is none, and tells it what waits."""
         try:
             if self.keeper is not None and self.keeper.poll() is not None and not self.is_over:
+                self.word.leave(self.seen)
                 self.teller.forget()
                 self.status.forget()
                 self.keeper, self.start_at = None, time.monotonic() + AGAIN
+            elif self.keeper is not None:
+                self.seen = time.time_ns()
             if self.keeper is None and time.monotonic() > self.start_at and not self.is_over:
                 self.start_keeper()
         except OSError as fault:
@@ -219,6 +226,8 @@ class Proxy:
         for number in (signal.SIGTERM, signal.SIGINT):
             loop.add_signal_handler(number, over.set)
         loop.add_signal_handler(signal.SIGHUP, self.read_again)
+        if not self.settings.only:
+            self.word.leave(self.seen)
         await self.listen()
         while not over.is_set():
             self.tick()

@@ -12,7 +12,7 @@ from new_enemy_tools.importing.reading import Bad
 from new_enemy_tools.importing.service import Answer
 from new_enemy_tools.importing.times import nanoseconds
 from new_enemy_tools.recording.lines import elsewhere_line, gap_line, line, time_text, unmapped_line
-from new_enemy_tools.recording.log_files import Doubts, Left, Place
+from new_enemy_tools.recording.log_files import KILLED, Doubts, Left, Place
 from new_enemy_tools.recording.messages import CHECKS, Beat, Bye, Ended, Lost, Started
 from new_enemy_tools.recording.sequencer import Commit, Ready, Sequencer
 
@@ -20,6 +20,7 @@ FOREVER = 1 << 63
 # By less than this a clock was not set: the two clocks are read one behind the other.
 NOISE = 10_000_000
 SET = "the clock of the recorder's machine was set"
+UNTOLD = "the proxy was killed, with what it had not told yet"
 # Gaps behind the first one are told together, so often, and checks of other stores.
 TOGETHER = 10 ** 9
 # So many causes are told apart, and so much of one is told: what stands in some comes from a client.
@@ -110,10 +111,10 @@ class Gaps:
         self.open.clear()
         return lost, since
 
-    def lines(self, now: Now, at_once: bool) -> bytes:
+    def lines(self, now: Now, at_once: bool, until: Optional[int] = None) -> bytes:
         if not self.open or not at_once and self.told is not None and now.clock - self.told < TOGETHER:
             return b""
-        found = b"".join(gap_line(one.start, one.end, one.reason, one.amount) for one in self.open.values())
+        found = b"".join(gap_line(one.start, one.end, one.reason, one.amount, until) for one in self.open.values())
         self.open.clear()
         self.told = now.clock
         return found
@@ -129,6 +130,8 @@ class Core:
         self.ahead: Optional[tuple[int, int, int]] = None
         self.sequencer, self.gaps = Sequencer(), Gaps()
         self.is_ready = self.is_over = False
+        # when the log began, or went on
+        self.begun = 0
         # when the service last told of its changes, and whether they can't be read
         self.fed: Optional[int] = None
         self.is_faulty = False
@@ -138,7 +141,7 @@ class Core:
         # how many calls were of other stores than the one that is recorded; and how many of them, which are no gap, no line has told, and when
         # one did
         self.elsewhere = self.untold = self.told_at = 0
-        self.ticks = 0
+        self.ticks = self.ticked = 0
         # what an earlier recorder left, and whether there was none
         self.left: Optional[Left] = None
         self.is_first = True
@@ -167,10 +170,11 @@ class Core:
                 self._end(message)
             elif isinstance(message, Lost):
                 self._add_gap(message.reason, message.start, message.end, message.amount)
-                self._say_gaps(False)
+                # What goes back farther would be lost with this recorder.
+                self._say_gaps(now.wall - message.start > TOGETHER)
             elif isinstance(message, Bye):
                 if not message.at and not self.is_over:
-                    self.say("the proxy is gone")
+                    self._lose_untold()
                 self.is_over = True
                 self._tell_until(FOREVER)
             elif isinstance(message, Faulty):
@@ -202,6 +206,10 @@ class Core:
         """What the clock of the wall said then, at most."""
         return clock + (self.ahead or (0, 0, self.now.wall - self.now.clock))[2]
 
+    def until(self) -> int:
+        """Until when all that had its answer has come, or is in the gap before the log: the last line of a recorder that is killed says so."""
+        return min(self.now.wall, max(self.sequencer.told_until, self.begun) + (self.now.wall - self.now.clock))
+
     def _back(self) -> int:
         """How far the clock of the wall was set back."""
         return max(0, (self.ahead[2] - self.ahead[0]) if self.ahead else 0)
@@ -209,6 +217,12 @@ class Core:
     def _tell_until(self, clock: int) -> None:
         self.sequencer.told_until = max(clock, self.sequencer.told_until)
         self.service.moved(self)
+
+    def _lose_untold(self) -> None:
+        """The proxy was killed, and with it what it had not told yet."""
+        self.say("the proxy is gone")
+        until, told = self.now.wall, self.sequencer.told_until
+        self.miss(UNTOLD, self.earliest(told) if told else until, until, 0)
 
     def _begin(self, message: Started) -> None:
         if message.call not in CHECKS:
@@ -248,7 +262,7 @@ class Core:
         lost, first = self.gaps.take()
         gap = b"" if self.is_first and message.is_empty and not lost else self._gap_before(lost, first)
         self.first = chain([gap], message.data, [place_line(message.place)])
-        self.place, self.is_ready = message.place, True
+        self.place, self.is_ready, self.begun = message.place, True, self.now.clock
         self.say("recording")
 
     def _gap_before(self, lost: int, first: int) -> bytes:
@@ -257,10 +271,10 @@ class Core:
         until = self.now.wall + back
         if self.left is None:
             return gap_line(None, until, "the log begins", lost)
-        since = nanoseconds(self.left.time)
+        since, reason = nanoseconds(self.left.time), KILLED if self.left.was_killed else "the recorder did not run"
         if since is None or since > until:
-            return gap_line(None, max(since or 0, until), "the recorder did not run", lost)
-        return gap_line(min(since - back, first), until, "the recorder did not run", lost)
+            return gap_line(None, max(since or 0, until), reason, lost)
+        return gap_line(min(since - back, first), until, reason, lost)
 
     # What a service puts into the log
 
@@ -301,7 +315,7 @@ class Core:
 
     def _say_gaps(self, at_once: bool) -> None:
         if self.is_ready:
-            self.unsaid.append(self.gaps.lines(self.now, at_once))
+            self.unsaid.append(self.gaps.lines(self.now, at_once, self.until()))
 
     def pass_elsewhere(self) -> None:
         """A call is of another store, and no gap."""
@@ -310,7 +324,7 @@ class Core:
 
     def _say_elsewhere(self) -> None:
         if self.untold:
-            self.unsaid.append(elsewhere_line(self.untold, self.now.wall))
+            self.unsaid.append(elsewhere_line(self.untold, self.until()))
             self.untold, self.told_at = 0, self.now.clock
 
     def forget(self, number: int) -> None:
@@ -339,7 +353,8 @@ class Core:
     # Time, and the lines
 
     def tick(self, now: Now) -> None:
-        """Gives up what has waited for too long."""
+        """Gives up what has waited for too long; where that could not be done for a while, it is told at once."""
+        is_late, self.ticked = now.clock - self.ticked > TOGETHER, now.clock
         self._come_to(now)
         self.ticks += 1
         before = now.clock - int(self.hold * 1e9)
@@ -352,14 +367,21 @@ class Core:
         for message in self.service.late(before):
             self.forget(message.number)
             self.lose(behind, message.begun)
-        self._say_gaps(False)
+        self._say_gaps(is_late)
         if now.clock - self.told_at >= TOGETHER:
             self._say_elsewhere()
 
-    def drained(self) -> bytes:
-        """The lines that can be written now; `place` is then where the changes are behind them."""
-        made, self.unsaid = [*(self.first or ()), *self.unsaid], []
-        self.first = None
+    def drained(self, now: Optional[Now] = None) -> bytes:
+        """The lines that can be written now; `place` is then where the changes are behind them. Where it is time, the rest is given up that
+        waited for too long, and what tells of that stands in front: no line is in the log whose time would say that all before is told."""
+        first, self.first, made = list(self.first or ()), None, self._in_order()
+        if now is not None:
+            self.tick(now)
+        unsaid, self.unsaid = self.unsaid, []
+        return b"".join([*first, *unsaid, *made])
+
+    def _in_order(self) -> list[bytes]:
+        made: list[bytes] = []
         for one in self.sequencer.drained() if self.is_ready else ():
             if isinstance(one, Commit):
                 made.append(one.data)
@@ -373,7 +395,7 @@ class Core:
         if self.is_ready and self.service.doubts != self.place.doubts:
             self.place = self.place._replace(doubts=self.service.doubts)
             made.append(place_line(self.place, True))
-        return b"".join(made)
+        return made
 
     # The end
 

@@ -20,9 +20,7 @@ from new_enemy_tools.recording.spine import Numbered, Spine, Track
 # Which came first of changes that bear on a check, one recorder has in another way than another.
 UNORDERED = "changes that the recorders have in different orders"
 UNKNOWN = "the content version may have been saved through a recorder whose log ends before"
-OPEN = "%s is not closed, since it is still written or its recorder was killed"
-# What waited when a recorder was killed had its answer so long before its last line, or later.
-WAITED = 31 * 10 ** 9
+OPEN = "%s is not closed, or full, since it is still written or its recorder was killed"
 
 
 class Placed(NamedTuple):
@@ -192,7 +190,7 @@ class Join:
         self.timed = placing_of(self.sketches, self.own, skew, stale, bearing) if self.own else None
         self.issued: set[Version] = set().union(*(one.issued for one in self.sketches), *map(issued_by, self.own))
         # until when each log has all that was saved through its recorder
-        self.untils = [one.until - skew - (0 if one.given.is_closed else WAITED) for one in self.sketches]
+        self.untils = [one.until - skew - (0 if one.given.is_closed else one.waited) for one in self.sketches]
         for number, one in enumerate(self.sketches):
             if one.timed[1]:
                 # Nothing is saved through it.
@@ -316,7 +314,7 @@ class Join:
 
     def _open_gap(self, one: Sketch, end: int) -> Value:
         """What a log does not have that was not closed."""
-        return {"event": "gap", "from": time_text(max(0, one.until - self.skew - WAITED)), "to": time_text(end),
+        return {"event": "gap", "from": time_text(max(0, one.until - self.skew - one.waited)), "to": time_text(end),
                 "reason": OPEN % one.given.name, "time": time_text(end)}
 
 

@@ -12,7 +12,8 @@ from typing import Any, Callable, NamedTuple, Optional, Protocol
 
 from new_enemy_tools.recording.asking import FeedFault
 from new_enemy_tools.recording.core import NOISE, Core, Faulty, Now, Service
-from new_enemy_tools.recording.log_files import Beside, InUse, Left, LogFault, LogFiles
+from new_enemy_tools.recording.beside import Beside, Words
+from new_enemy_tools.recording.log_files import InUse, Left, LogFault, LogFiles
 from new_enemy_tools.recording.messages import KINDS, Bye, Ended, Key, messages_from
 from new_enemy_tools.recording.metrics import Status, StatusSender
 from new_enemy_tools.shown import tell
@@ -22,6 +23,7 @@ MESSAGES = 20_000
 ROOM = 64 << 20
 EACH = ROOM // MESSAGES
 TICK = 0.2
+UNWRITTEN = "the log could not be written; what came later was kept as long as there was room"
 BESIDE = "another recorder passed them, and ended while it waited for this folder"
 # So long the end waits for changes that entries need.
 LAST = 5.0
@@ -47,6 +49,9 @@ class Settings(NamedTuple):
     packs: bool = False
     only: bool = False
     ignores: bool = False
+    # the word that the proxy keeps as long as no keeper has the folder; and since when its requests passed without one that knows of them
+    word: Optional[str] = None
+    since: Optional[int] = None
 
 
 class Feed(Protocol):
@@ -72,8 +77,12 @@ class Keeper:
         self.queue: queue.SimpleQueue[tuple[list[Any], int]] = queue.SimpleQueue()
         # how much of that has come and has been taken; each is changed by one thread
         self.came = self.taken = 0
+        self.words = Words(settings.folder)
+        if settings.since is not None:
+            self.core.gaps.add(BESIDE, settings.since, time.time_ns(), 0)
         self.log = LogFiles(settings.folder, settings.service, settings.size, settings.age, settings.hold, settings.packs)
         self.sender = StatusSender(end)
+        self.ticked = time.monotonic()
         self.said: Optional[str] = None
         self.gone_at: Optional[float] = None
 
@@ -101,7 +110,6 @@ class Keeper:
         return 0
 
     def _keep(self) -> None:
-        ticked = time.monotonic()
         while not self.core.is_over:
             try:
                 self._take(*self.queue.get(timeout=TICK))
@@ -110,12 +118,8 @@ class Keeper:
                     self._take(*self.queue.get())
             except queue.Empty:
                 pass
-            # What can be written is no longer waiting, however late it came here.
-            self._write()
-            if time.monotonic() - ticked > TICK:
-                ticked = time.monotonic()
+            if self._write():
                 self._take_beside()
-                self.core.tick(_now())
                 self.sender.tell(self._status())
 
     def _status(self) -> Status:
@@ -186,14 +190,26 @@ class Keeper:
         while not self.queue.empty():
             self._take(*self.queue.get())
         self.core.end_asked(_now())
-        lost, since = self.core.gaps.take()
-        if lost:
-            self.log.leave(Beside(lost, since, time.time_ns()))
+        try:
+            if self.core.gaps.open:
+                self.words.leave(Beside(*self.core.gaps.take(), time.time_ns()))
+        except OSError as fault:
+            raise LogFault(fault.strerror) from None
+        self._drop_word()
+
+    def _drop_word(self) -> None:
+        """The proxy's word has nothing to say any more that is not told."""
+        if self.settings.word is not None:
+            self.words.let_go([self.settings.word])
 
     def _take_beside(self) -> None:
-        """What others passed that ended while this one had the folder is a gap of its log."""
-        for one in self.log.beside() if self.core.is_ready else ():
+        """What others passed that ended while this one had the folder is a gap of its log, and their word is gone when that stands there."""
+        found = self.words.found() if self.core.is_ready else {}
+        for one in found.values():
             self.core.miss(BESIDE, one.start, one.end, one.amount)
+        if found:
+            self._write()
+            self.words.let_go(found)
 
     def _take(self, messages: list[Any], weight: int) -> None:
         self.taken += weight
@@ -208,6 +224,7 @@ class Keeper:
                     self._write_whole(data, True)
                 self.core.first = None
                 self.log.place = self.core.place
+                self._drop_word()
         self._tell()
 
     def _tell(self) -> None:
@@ -217,13 +234,20 @@ class Keeper:
 
     # The files
 
-    def _write(self) -> None:
-        """Writes what can be written; where the log can't be, nothing more is taken in until it can."""
-        data = self.core.drained()
+    def _write(self) -> bool:
+        """Writes what can be written, and where it is time gives up what waited for too long, which it says; where the log can't be written,
+        nothing more is taken in until it can."""
+        is_time = time.monotonic() - self.ticked > TICK
+        if is_time:
+            self.ticked = time.monotonic()
+        data = self.core.drained(_now() if is_time else None)
         self._tell()
+        if self.core.is_ready:
+            self.log.until = self.core.until()
         self._write_whole(data)
         if self.core.is_ready:
             self.log.place = self.core.place
+        return is_time
 
     def _write_whole(self, data: bytes, goes_on: bool = False) -> None:
         failed = 0
@@ -233,8 +257,7 @@ class Keeper:
                 if failed:
                     self.said = None
                     self.say("the log goes on")
-                    self.core.gaps.add("the log could not be written; what came later was kept as long as there was room", failed,
-                                       time.time_ns(), 0)
+                    self.core.miss(UNWRITTEN, failed, time.time_ns(), 0)
                 return
             except LogFault as fault:
                 failed = failed or time.time_ns()
@@ -255,14 +278,15 @@ class Keeper:
             self._write()
         self.core.end(_now())
         if self.core.is_ready:
-            self._take_beside()
             self._write()
+            self._take_beside()
             self._close()
         elif self.core.gaps.open:
             self._write_whole(self.core.end_unbegun())
             self._tell()
             if self.core.left is not None:
                 self._close()
+            self._drop_word()
 
     def _close(self) -> None:
         self.log.close()

@@ -65,9 +65,11 @@ def base_lines(revision: int, tuples: list[Relationship]) -> Iterator[bytes]:
         yield line("write", revision=revision, base=True, add=[tuple_list(one) for one in tuples[at:at + TUPLES]])
 
 
-def gap_line(start: Optional[int], end: int, reason: str, lost: int = 0) -> bytes:
-    shown = time_text(end)
-    return line("gap", **{"from": None if start is None else time_text(start)}, to=shown, reason=reason, lost=lost or None, time=shown)
+def gap_line(start: Optional[int], end: int, reason: str, lost: int = 0, until: Optional[int] = None) -> bytes:
+    """A gap; `until` is until when all is told, where that is before its end."""
+    time = end if until is None else min(end, until)
+    return line("gap", **{"from": None if start is None else time_text(start)}, to=time_text(end), reason=reason, lost=lost or None,
+                time=time_text(time))
 
 
 def elsewhere_line(count: int, now: int) -> bytes:

@@ -8,7 +8,7 @@ from typing import Iterator, NamedTuple, Optional, Sequence
 
 from new_enemy_tools.importing.times import nanoseconds
 from new_enemy_tools.recording.days_joined import ENTRIES, Before, DayJoin, Taken, refuse_missing, without_late
-from new_enemy_tools.recording.joining import WAITED, Placed, Standing, is_of_base, says_nothing
+from new_enemy_tools.recording.joining import Placed, Standing, is_of_base, says_nothing
 from new_enemy_tools.recording.own_events import NEVER
 from new_enemy_tools.recording.sketches import Given, Row, Sketch, Unreached, Value, Version, last_of, version_of
 
@@ -38,7 +38,7 @@ class Log:
         revision = last_of(self.sketch)
         self.count += 1
         self.sketch.take(row)
-        self.sketch.given = self.sketch.given._replace(is_closed=value["event"] == "closed")
+        self.sketch.given = self.sketch.given._replace(is_closed=value["event"] == "closed" and not value.get("full"))
         if says_nothing(value, is_base):
             return
         if self._is_taken(number):
@@ -88,7 +88,7 @@ class Round(DayJoin):
     def _reach(self, log: int) -> int:
         """A recorder may still write of what was asked so long before its last line."""
         found = super()._reach(log)
-        return found if found == NEVER or self.sketches[log].given.is_closed else found - WAITED
+        return found if found == NEVER or self.sketches[log].given.is_closed else found - self.sketches[log].waited
 
     def _waits(self, placed: Placed) -> bool:
         if not super()._waits(placed):

@@ -25,16 +25,15 @@ NAME = re.compile(r"[0-9]{6}\.jsonl(?:\.gz)?")
 PACKED = ".gz"
 # What is compressed by half, in no list of the log's files.
 PART = re.compile(r"\.[0-9]{6}\.part")
-# What a recorder leaves that ended while another had the folder.
-BESIDE = re.compile(r"beside-[0-9]+")
 # So long the end of a recorder waits for what is compressed.
 PATIENCE = 5.0
 SIZE = 512 << 20
 AGE = 3600.0
+KILLED = "the recorder was killed"
 # A first line that was cut is shorter.
 HEAD = 1 << 10
-# So much later than it should may what waits be given up.
-LATER = 1.0
+# So much later than it should may what waits be given up, and that be told.
+LATER = 2.0
 
 
 class LogFault(Exception):
@@ -72,8 +71,9 @@ class Place(NamedTuple):
 
 
 class Left(NamedTuple):
-    """What an earlier recorder left: its last place, how many writes it wrote behind that and the last revision, its last time, the
-    revision of the base state, and the first tuples of its last writes, as far as they may come again."""
+    """What an earlier recorder left: its last place, how many writes it wrote behind that and the last revision, until when the log tells of
+    all, the revision of the base state, and the first tuples of its last writes, as far as they may come again. One that ended before it had
+    a next file for a full one was killed."""
 
     place: Place
     writes: int
@@ -81,6 +81,7 @@ class Left(NamedTuple):
     time: Optional[str]
     base: int
     changes: list[Known] = []
+    was_killed: bool = False
 
     @property
     def behind(self) -> int:
@@ -88,17 +89,10 @@ class Left(NamedTuple):
         return self.revision - self.place.revision + self.place.behind
 
 
-class Beside(NamedTuple):
-    """What a recorder passed that ended while another had its folder: how much, from and to when."""
-
-    amount: int
-    start: int
-    end: int
-
-
 class _Found(NamedTuple):
     number: int
     before: Optional[str]
+    hold: float
 
 
 class LogFiles:
@@ -106,6 +100,9 @@ class LogFiles:
         """`packs` says whether files are compressed when they are closed."""
         self.folder, self.service, self.limit, self.age, self.hold = folder, service, size, age, hold
         self.packer = Packer() if packs else None
+        self.hold_of_left = hold
+        # until when the log tells of all, or knows what waits; None where it has no line yet
+        self.until: Optional[int] = None
         self.descriptor: Optional[int] = None
         self.number = 0
         self.before: Optional[str] = None
@@ -135,33 +132,6 @@ class LogFiles:
             raise InUse from None
         except OSError as fault:
             raise LogFault(fault.strerror) from None
-
-    def leave(self, given: Beside) -> None:
-        """Leaves word for the recorder that has the folder; raises LogFault."""
-        path = os.path.join(self.folder, "beside-%d" % time.time_ns())
-        try:
-            descriptor = os.open(path + ".new", os.O_CREAT | os.O_TRUNC | os.O_WRONLY, 0o600)
-            with open(descriptor, "w", encoding="utf-8") as file:
-                json.dump(given, file)
-            os.replace(path + ".new", path)
-        except OSError as fault:
-            raise LogFault(fault.strerror) from None
-
-    def beside(self) -> list[Beside]:
-        """Takes what others left that ended while this one had the folder."""
-        found = []
-        try:
-            for name in os.listdir(self.folder):
-                if BESIDE.fullmatch(name):
-                    path = os.path.join(self.folder, name)
-                    with open(path, encoding="utf-8") as file:
-                        given = Beside(*json.load(file))
-                    os.remove(path)
-                    found.append(given)
-        except (OSError, ValueError, TypeError):
-            # It is looked for again.
-            pass
-        return found
 
     def recover(self) -> Optional[Left]:
         """Closes what an earlier recorder left, and says where it was; raises LogFault."""
@@ -204,7 +174,7 @@ class LogFiles:
                         raise LogFault("%s is no file of a log; give another folder" % path)
                     if value.get("service") != self.service:
                         raise LogFault("it has a log of %s; give another folder" % value.get("service"))
-                    head = _Found(value["number"], value.get("before"))
+                    head = _Found(value["number"], value.get("before"), value.get("hold", 0.0))
                 kind = value.get("event")
                 if kind in ("log", "feed"):
                     store = value.get("store")
@@ -225,6 +195,7 @@ class LogFiles:
             raise LogFault("%s is no file of a log; give another folder" % path)
         if head is None or place.rules is None:
             return None
+        self.hold_of_left = max(self.hold, head.hold)
         if closed is None:
             now = time.time_ns()
             gap = self._gap_of_killed(last, now)
@@ -234,15 +205,22 @@ class LogFiles:
         self.number, self.before, place = head.number, hashed.hexdigest(), place._replace(store=store)
         # A file may follow that has no changes.
         self.place = place._replace(revision=revision, behind=writes + place.behind)
-        return Left(place, writes, revision, last, 0)
+        was_killed, at = closed is not None and bool(closed.get("full")), nanoseconds(last)
+        if was_killed and at is not None:
+            at = self._since_killed(at)
+        self.until = at
+        return Left(place, writes, revision, None if at is None else time_text(at), 0, was_killed=was_killed)
+
+    def _since_killed(self, last: int) -> int:
+        """What waited when a recorder was killed had its answer so long before the last line, or later."""
+        return last - int((self.hold_of_left + LATER) * 1e9)
 
     def _gap_of_killed(self, last: Optional[str], now: int) -> bytes:
-        """What waited when a recorder was killed had its answer so long before the last line, or later. By a clock that was set back since then
-        nobody knows how long it went on."""
+        """By a clock that was set back since the last line nobody knows how long the recorder went on."""
         at = nanoseconds(last)
         if at is None or at > now:
-            return gap_line(None, max(at or 0, now), "the recorder was killed")
-        return gap_line(at - int((self.hold + LATER) * 1e9), now, "the recorder was killed")
+            return gap_line(None, max(at or 0, now), KILLED)
+        return gap_line(self._since_killed(at), now, KILLED)
 
     @staticmethod
     def _close_left(path: str, size: int, end: bytes) -> None:
@@ -284,7 +262,7 @@ class LogFiles:
     def add(self, data: bytes, goes_on: bool = False) -> None:
         """Adds whole lines, to the same file where they go on from the last; raises LogFault where none of them was added."""
         if not goes_on and self.descriptor is not None and self.size and (self.size + len(data) > self.limit or time.monotonic() - self.opened > self.age):
-            self.close()
+            self.close(True)
         if self.descriptor is None:
             self._open()
         self._put(data)
@@ -296,8 +274,9 @@ class LogFiles:
         except OSError as fault:
             raise LogFault(fault.strerror) from None
         self._begin_counts()
+        until = time.time_ns() if self.until is None else self.until
         head = line("log", number=self.number + 1, before=self.before, service=self.service, store=self.place.store,
-                    time=time_text(time.time_ns()), **self.place.keys, doubts=self.place.doubts or None)
+                    hold=self.hold or None, time=time_text(until), **self.place.keys, doubts=self.place.doubts or None)
         try:
             self._put(head)
         except LogFault:
@@ -320,13 +299,13 @@ class LogFiles:
         self.count += data.count(b"\n")
         self.hash.update(data)
 
-    def close(self) -> None:
-        """Ends the file with its count and hash; raises LogFault."""
+    def close(self, is_full: bool = False) -> None:
+        """Ends the file with its count and hash, and says where another is to follow; raises LogFault."""
         if self.descriptor is None:
             return
         self._put(line("place", **self.place.keys))
         found, count = self.hash.hexdigest(), self.count
-        self._put(line("closed", count=count, sha256=found))
+        self._put(line("closed", count=count, sha256=found, full=is_full or None))
         try:
             os.fsync(self.descriptor)
             os.close(self.descriptor)

@@ -6,6 +6,7 @@ from new_enemy_tools.importing.events import Relationship
 from new_enemy_tools.importing.reading import Bad
 from new_enemy_tools.importing.times import nanoseconds
 from new_enemy_tools.importing.zedtokens import Older, read_revision
+from new_enemy_tools.recording.log_files import LATER
 
 Value = dict[str, Any]
 # The type and id of an object, and the label of a version of it.
@@ -13,6 +14,8 @@ Version = tuple[str, str, str]
 JOINED = "joined "
 # Behind all revisions.
 FAR = 1 << 200
+# So long a check may wait, where its log does not say that it is longer.
+WAITED = 31 * 10 ** 9
 
 
 class JoinFault(ToolFault):
@@ -84,6 +87,8 @@ class Sketch:
         # how many changes the feed had had when the log began; and when it ends
         self.count: Optional[int] = None
         self.until = 0
+        # what waited when its recorder was killed had its answer so long before its last line, or later
+        self.waited = WAITED
         self.base: set[Relationship] = set()
         self.revision = 0
         self.rules: Optional[Value] = None
@@ -124,6 +129,8 @@ class Sketch:
         if event == "unmapped" and value.get("userset"):
             self._take_unformed(value)
             return
+        if event == "log" and value.get("hold") is not None:
+            self.waited = max(self.waited, int((value["hold"] + LATER) * 1e9))
         if event == "log" and not self.service:
             self.service = str(value.get("service"))
             if self.service.startswith(JOINED):
