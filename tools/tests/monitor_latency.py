@@ -1,9 +1,9 @@
-"""How long it takes from a reply to an alert: monitor_latency.py PROGRAM [SECONDS [RATE [ENEMIES]]]
+"""How long it takes from a reply to an alert: monitor_latency.py PROGRAM [SECONDS [RATE [ENEMIES]]] [--spicedb]
 
-A service that speaks OpenFGA's interface, a recorder in front of it, a monitor beside that, and a webhook. A client
-asks so many checks a second (RATE) over 16 connections, and each second lets so many new enemies in (ENEMIES): a user
-is removed, a version is saved, and the user asks for it and gets a reply from before. Printed is how long after that
-reply the webhook had it, and what each process took.
+A service that speaks OpenFGA's interface, or the stand-in of SpiceDB, a recorder in front of it, a monitor beside that,
+and a webhook. A client asks so many checks a second (RATE) over 16 connections, and each second lets so many new
+enemies in (ENEMIES): a user is removed, a version is saved, and the user asks for it until a reply is from before.
+Printed is how long after that reply the webhook had it, and what each process took.
 """
 import asyncio
 import json
@@ -21,6 +21,7 @@ sys.path.insert(0, os.path.dirname(os.path.dirname(os.path.abspath(__file__))))
 
 from tests.ports import free_port
 from tests.recording_latency import MODEL, STORE, TOOLS, processor
+from tests.stand_in_spicedb import object_of, relationship_of
 
 CONNECTIONS, PAGE = 16, 100
 
@@ -92,32 +93,68 @@ class Connection(asyncio.Protocol):
         if self.data.endswith(b"}") and self.answered is not None and not self.answered.done():
             self.answered.set_result(json.loads(self.data.partition(b"\r\n\r\n")[2]))
 
-    async def ask(self, call, body, **headers):
+    async def ask(self, path, body, **headers):
         self.data, self.answered = b"", asyncio.get_running_loop().create_future()
         data, more = json.dumps(body).encode(), "".join("%s: %s\r\n" % (name.replace("_", "-"), value) for name,
                                                         value in headers.items())
-        head = "POST /stores/%s/%s HTTP/1.1\r\nHost: x\r\nContent-Type: application/json\r\n%sContent-Length: %d\r\n\r\n"
-        self.transport.write((head % (STORE, call, more, len(data))).encode() + data)
+        head = "POST %s HTTP/1.1\r\nHost: x\r\nContent-Type: application/json\r\n%sContent-Length: %d\r\n\r\n"
+        self.transport.write((head % (path, more, len(data))).encode() + data)
         return await self.answered
 
 
-def check(user, thing, consistency="HIGHER_CONSISTENCY"):
-    return {"tuple_key": {"user": "user:" + user, "relation": "viewer", "object": "document:" + thing},
-            "consistency": consistency}
+class OpenFga:
+    """What is asked of it, as a path and a body."""
+
+    name, stand_in = "openfga", [__file__, "serve"]
+
+    @staticmethod
+    def check(user, relation, thing, is_newest=True):
+        key = {"user": "user:" + user, "relation": "viewer", "object": "document:" + thing}
+        return "/stores/%s/check" % STORE, {"tuple_key": key, "consistency": "HIGHER_CONSISTENCY" if is_newest else "MINIMIZE_LATENCY"}
+
+    @staticmethod
+    def write(is_added, *tuples):
+        keys = [{"user": "user:" + user, "relation": "viewer", "object": "document:" + thing} for user, _, thing in tuples]
+        return "/stores/%s/write" % STORE, {"writes" if is_added else "deletes": {"tuple_keys": keys}}
+
+    @staticmethod
+    def is_allowed(answer):
+        return answer["allowed"]
 
 
-async def let_in(connection, number, replied):
+class SpiceDb:
+    name, stand_in = "spicedb", [os.path.join(TOOLS, "tests", "stand_in_spicedb.py"), "0"]
+
+    @staticmethod
+    def check(user, relation, thing, is_newest=True):
+        return "/v1/permissions/check", {"resource": object_of("document:" + thing), "permission": {"owner": "edit"}.get(relation, "view"),
+                                         "subject": {"object": object_of("user:" + user)},
+                                         "consistency": {"fullyConsistent": True} if is_newest else {"minimizeLatency": True}}
+
+    @staticmethod
+    def write(is_added, *tuples):
+        return "/v1/relationships/write", {"updates": [
+            {"operation": "OPERATION_" + ("TOUCH" if is_added else "DELETE"),
+             "relationship": relationship_of(("document:" + thing, relation, "user:" + user, ""))} for user, relation, thing in tuples]}
+
+    @staticmethod
+    def is_allowed(answer):
+        return answer["permissionship"] == "PERMISSIONSHIP_HAS_PERMISSION"
+
+
+async def let_in(service, connection, number, replied):
     """A new enemy by its number; when the reply was there that let it in."""
     user, thing = "enemy%d" % number, "early%d" % number
-    mine = [{"user": "user:" + one, "relation": "viewer", "object": "document:" + thing} for one in (user, "owner")]
-    await connection.ask("write", {"writes": {"tuple_keys": mine}})
-    await connection.ask("write", {"deletes": {"tuple_keys": mine[:1]}})
-    await connection.ask("check", check("owner", thing), X_Content_Save="v%d" % number)
-    await connection.ask("check", check(user, thing, "MINIMIZE_LATENCY"), X_Content_Version="v%d" % number)
+    mine = [(user, "viewer", thing), ("owner%d" % number, "owner", thing)]
+    await connection.ask(*service.write(True, *mine))
+    await connection.ask(*service.write(False, *mine[:1]))
+    await connection.ask(*service.check(*mine[1]), X_Content_Save="v%d" % number)
+    while not service.is_allowed(await connection.ask(*service.check(*mine[0], False), X_Content_Version="v%d" % number)):
+        pass
     replied["document:" + thing] = time.time()
 
 
-async def load(port, seconds, rate, enemies, replied):
+async def load(service, port, seconds, rate, enemies, replied):
     loop, free = asyncio.get_running_loop(), asyncio.Queue()
     connected = [(await loop.create_connection(Connection, "127.0.0.1", port))[1] for _ in range(CONNECTIONS + 1)]
     for one in connected[1:]:
@@ -125,13 +162,13 @@ async def load(port, seconds, rate, enemies, replied):
 
     async def one_check(number):
         connection = await free.get()
-        await connection.ask("check", check("u%d" % (number % 1000), "d%d" % (number % 100)))
+        await connection.ask(*service.check("u%d" % (number % 1000), "viewer", "d%d" % (number % 100)))
         free.put_nowait(connection)
 
     async def plant():
         for number in range(int(seconds * enemies)):
             await asyncio.sleep(max(0, start + number / enemies - time.perf_counter()))
-            await let_in(connected[0], number, replied)
+            await let_in(service, connected[0], number, replied)
     start, waiting = time.perf_counter(), []
     waiting.append(asyncio.ensure_future(plant()))
     for number in range(int(seconds * rate)):
@@ -168,16 +205,18 @@ def main(words):
     if words == ["serve"]:
         asyncio.run(serve())
         return
+    kind = SpiceDb if "--spicedb" in words else OpenFga
+    words = [word for word in words if word != "--spicedb"]
     program, numbers = os.path.abspath(words[0]), [*words[1:], *("20", "1000", "2")[len(words) - 1:]]
     seconds, rate, enemies = map(float, numbers)
     hook = ThreadingHTTPServer(("127.0.0.1", 0), Hook)
     hook.heard = {}
     threading.Thread(target=hook.serve_forever, daemon=True).start()
     with tempfile.TemporaryDirectory() as room:
-        service = subprocess.Popen([sys.executable, __file__, "serve"], stdout=subprocess.PIPE, text=True)
-        port, at, replied = int(service.stdout.readline()), free_port(), {}
+        service = subprocess.Popen([sys.executable, *kind.stand_in], stdout=subprocess.PIPE, text=True)
+        port, at, replied = int(service.stdout.readline().split()[-1]), free_port(), {}
         log = os.path.join(room, "log")
-        recorder = subprocess.Popen([sys.executable, os.path.join(TOOLS, "record"), "--openfga",
+        recorder = subprocess.Popen([sys.executable, os.path.join(TOOLS, "record"), "--" + kind.name,
                                      "http://127.0.0.1:%d" % port, "--listen",
                                      "127.0.0.1:%d" % at, "--out", log], stderr=subprocess.PIPE, text=True)
         recorder.stderr.readline()
@@ -187,7 +226,7 @@ def main(words):
                                    stderr=subprocess.PIPE, text=True)
         monitor.stderr.readline()
         try:
-            took = asyncio.run(load(at, seconds, rate, enemies, replied))
+            took = asyncio.run(load(kind, at, seconds, rate, enemies, replied))
             until = time.monotonic() + 60
             while len(hook.heard) < len(replied) and time.monotonic() < until:
                 time.sleep(0.1)

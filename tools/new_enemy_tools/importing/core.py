@@ -415,5 +415,5 @@ class Core:
         now: list[str] = []
         for number, one in enumerate(made):
             behind = self.taken.states.place(one.snapshot or 0) if entry.newest else place
-            (waiting.setdefault(behind, []) if behind > place else now).append(shown.entry(one, number > 0))
+            (waiting.setdefault(behind, []) if behind > place else now).append(shown.entry(one, number > 0, str(goal)))
         return now
