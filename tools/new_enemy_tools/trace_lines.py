@@ -106,7 +106,6 @@ COMMIT_START = b'{"kind":"commit","at":'
 CHECK_START = b'{"kind":"check","goal":'
 CONTENT_START = b'{"kind":"content","goal":'
 KIND_START = b'{"kind":"'
-RECORD_START = b'{"line":'
 ATS = re.compile(rb"\n%s(%s)[,}]" % (re.escape(COMMIT_START), NUMBER))
 TOUCHED = re.compile(rb'"([^"@]+)@')
 MEMBER = re.compile(rb"@[a-z]")
@@ -340,7 +339,7 @@ def entry_line(kind: str, goal: str, look: str, line: int, time: Optional[str], 
 
 _MARK = re.compile(rb'"coverage":(\{[^\\\n]*\})\}\r?$', re.MULTILINE)
 # What stands behind a line in place of its last bracket.
-IDS, STRATA, COVERAGE = "ids", "strata", "coverage"
+IDS, STRATA = "ids", "strata"
 
 
 def mark_text(**said: object) -> str:
