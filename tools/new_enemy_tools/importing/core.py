@@ -387,33 +387,35 @@ class Core:
                 place += 1
                 yield from waiting.pop(place, ())
 
-    def _between(self, entry: Entry, place: int, shown: Shown, waiting: dict[int, list[str]]) -> list[str]:
+    def _between(self, entry: Entry, place: int, shown: Shown, waiting: dict[int, list[str]]) -> Iterator[str]:
         """An entry at the state where its reply is right; or at each, the others as plain checks.
 
         Where the newest state was asked for, the token is that state, and the entry waits until the trace has come to it.
         """
         if self.oldest is not None and entry.lowest is not None and entry.lowest < self.oldest:
             self.refusals.unmapped_check(entry, causes.STATE_NOT_KEPT)
-            return []
+            return
         assert entry.lowest is not None and entry.snapshot is not None
         count = self.taken.states.count(entry.lowest, entry.snapshot)
         if count >= STATES:
             self.refusals.unmapped_check(entry, causes.TOO_WIDE, "%d commits, and %d states at most are looked at" % (count, STATES))
-            return []
+            return
         goal = Tuple(self.writer.named_set(*entry.goal[:3]), self.ids.number("user", *entry.goal[3:5]))
         asked = Asked(entry.kind, goal, entry.reply, entry.lowest, entry.snapshot, entry.token, entry.newest)
         chosen = self.taken.states.chosen(asked, place, self.goes_on is not None)
         if not chosen:
             self.refusals.unmapped_check(entry, causes.STATE_TO_COME)
-            return []
+            return
         self.counts.take_entry(entry, entry.token is not None or entry.newest)
         first, *others = chosen
         has_token = entry.newest and entry.token is None and (entry.kind == "check" or entry.reply)
         token = first if has_token else self.taken.demanded(entry.goal, entry.version, first, entry.token)
         made = [entry._replace(snapshot=first, token=token)]
         made += [entry._replace(kind="check", snapshot=at, token=None, version=None, part=None, named=None) for at in others]
-        now: list[str] = []
         for number, one in enumerate(made):
             behind = self.taken.states.place(one.snapshot or 0) if entry.newest else place
-            (waiting.setdefault(behind, []) if behind > place else now).append(shown.entry(one, number > 0, str(goal)))
-        return now
+            line = shown.entry(one, number > 0, str(goal))
+            if behind > place:
+                waiting.setdefault(behind, []).append(line)
+            else:
+                yield line
