@@ -11,26 +11,19 @@ class Answers:
 
     def __init__(self, rules: Rules, store: Store):
         self.rules, self.store = rules, store
+        self.has, self.sets = store.has_text, store.set_texts
         # by the identity of an expression, which the rules keep
         self.made: dict[int, Rule] = {}
 
     def holds(self, goal: Tuple, at: int) -> bool:
         """Raises Outgrown."""
         try:
-            return Asked(_At(self, at), str(goal.user).encode(), at).holds(str(goal.set).encode())
+            return Asked(self, str(goal.user).encode(), at).holds(str(goal.set).encode())
         except Tangled:
             return Settled(self.rules, self.store, goal, at).holds()
 
-
-class _At:
-    """What is known at a timestamp."""
-
-    def __init__(self, answers: Answers, at: int):
-        self.rules, self.made, self.at = answers.rules, answers.made, at
-        self.has, self.sets = answers.store.has_text, answers.store.set_texts
-
-    def rule(self, thing: bytes, relation: bytes) -> Rule:
-        rewrite = self.rules.rewrite_at(thing.partition(b":")[0].decode(), relation.decode(), self.at)
+    def rule(self, thing: bytes, relation: bytes, at: int) -> Rule:
+        rewrite = self.rules.rewrite_at(thing.partition(b":")[0].decode(), relation.decode(), at)
         if rewrite is None:
             return NO_RULE
         made = self.made.get(id(rewrite))

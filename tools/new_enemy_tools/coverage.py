@@ -13,6 +13,7 @@ from new_enemy_tools import trace_lines
 from new_enemy_tools.importing.causes import not_looked_for
 from new_enemy_tools.importing.times import nanoseconds, text_of_time
 from new_enemy_tools.shown import plain
+from new_enemy_tools.trace_lines import Counted, counted_in
 
 # Nothing was found, and not everything was looked at.
 INCOMPLETE = 6
@@ -193,28 +194,6 @@ def mark_of(coverage: Coverage) -> str:
     return trace_lines.mark_text(coverage=coverage._replace(in_part={}).row())
 
 
-class Lines(NamedTuple):
-    """What lines of a trace say of themselves: how many checks, and those in part by cause."""
-
-    checks: int
-    in_part: Counter[str]
-
-    def plus(self, other: "Lines", times: int = 1) -> "Lines":
-        in_part = Counter(self.in_part)
-        for cause, count in other.in_part.items():
-            in_part[cause] += times * count
-        return Lines(self.checks + times * other.checks, +in_part)
-
-
-NO_LINES = Lines(0, Counter())
-
-
-def lines_in(data: bytes) -> Lines:
-    """Of lines of a trace that the program takes."""
-    found = trace_lines.counted_in(data)
-    return Lines(found.checks + found.contents - found.again, Counter(found.part))
-
-
 def marks_in(data: bytes) -> list[Coverage]:
     """What imports said in lines of a trace, one for each."""
     found = []
@@ -226,7 +205,7 @@ def marks_in(data: bytes) -> list[Coverage]:
     return found
 
 
-def coverage_of(lines: Lines, marks: list[Coverage], is_imported: bool) -> Coverage:
+def coverage_of(lines: Counted, marks: list[Coverage], is_imported: bool) -> Coverage:
     """The sum for lines of a trace, with the sums that imports left in them."""
     said = Coverage()
     for mark in marks:
@@ -234,16 +213,16 @@ def coverage_of(lines: Lines, marks: list[Coverage], is_imported: bool) -> Cover
     unknown = said.unknown
     if is_imported and not marks:
         unknown = "the trace does not say what its import left out; import the logs again"
-    elif marks and said.checks != lines.checks:
-        unknown = "the trace has %d checks, and its import left %d in it" % (lines.checks, said.checks)
-    return said._replace(checks=lines.checks, in_part=dict(lines.in_part), unknown=unknown)
+    elif marks and said.checks != lines.entries:
+        unknown = "the trace has %d checks, and its import left %d in it" % (lines.entries, said.checks)
+    return said._replace(checks=lines.entries, in_part=dict(lines.part), unknown=unknown)
 
 
 def coverage_in(data: bytes) -> Coverage:
     """The sum of a trace. One that no import wrote has what stands in its lines; of a part of a cut, whose other lines are blank, it is not
     known how many checks its import left in it."""
-    lines, marks = lines_in(data), marks_in(data)
+    lines, marks = counted_in(data), marks_in(data)
     if data.startswith(b"\n") or b"\n\n" in data:
-        marks = [mark._replace(checks=lines.checks if not number else 0) for number, mark in enumerate(marks)]
+        marks = [mark._replace(checks=lines.entries if not number else 0) for number, mark in enumerate(marks)]
         return coverage_of(lines, marks, False)
     return coverage_of(lines, marks, trace_lines.is_imported(data))

@@ -9,6 +9,7 @@ import json
 import os
 import re
 from contextlib import contextmanager
+from functools import lru_cache
 from typing import Any, BinaryIO, Iterator, Optional, Sequence, Union
 
 from new_enemy_tools import limits, texts
@@ -56,6 +57,8 @@ def _row_lines(rows: list[tuple[str, str, str, int]], more: dict[str, str]) -> b
     return "".join([encode({**dict(zip(("kind", "type", "id", "number"), row)), **more}) + "\n" for row in rows]).encode()
 
 
+# Most objects are asked for often.
+@lru_cache(1 << 16)
 def is_kept(id_text: str) -> bool:
     """Whether a trace has an object id as it is."""
     return texts.is_object_id(id_text) and not (id_text[0] == "~" and ID.fullmatch(id_text))

@@ -1,7 +1,7 @@
 """How many checks of a trace can be looked at for stale answers: those that name a content version or carry a token."""
 from typing import NamedTuple, Optional
 
-from new_enemy_tools.trace_lines import counted_in
+from new_enemy_tools.trace_lines import Counted, counted_in
 
 NAME_IT = ("The application has to name the version on each check that shows content: in the header X-Content-Version, where the recorder "
            "writes the log (docs/RECORDING.md), or as `version` in a log of your own (docs/IMPORTING.md).")
@@ -64,5 +64,8 @@ def _how_many(count: int, one: str, many: str) -> str:
 
 def labels_in(lines: bytes) -> Labels:
     """Of lines of a trace; one that the program does not take may be counted or not."""
-    found = counted_in(lines)
+    return labels_of(counted_in(lines))
+
+
+def labels_of(found: Counted) -> Labels:
     return Labels(found.checks, found.with_version, found.with_token, found.with_unknown)

@@ -140,7 +140,7 @@ class Sight:
         except Tangled:
             return None
 
-    def rule(self, thing: bytes, relation: bytes) -> Rule:
+    def rule(self, thing: bytes, relation: bytes, _: int = 0) -> Rule:
         return self._rules.get((thing.partition(b":")[0], relation), NO_RULE)
 
     # What a goal leads to
@@ -277,7 +277,7 @@ class Sight:
 class Seen(Protocol):
     """Rules and a store, whose states have numbers."""
 
-    def rule(self, thing: bytes, relation: bytes) -> Rule: ...
+    def rule(self, thing: bytes, relation: bytes, count: int) -> Rule: ...
 
     def sets(self, of: bytes, count: int) -> list[bytes]: ...
 
@@ -303,7 +303,7 @@ class Asked:
             if self._left < 0:
                 raise Tangled
             thing, _, relation = node.rpartition(b"#")
-            rule = self.sight.rule(thing, relation)
+            rule = self.sight.rule(thing, relation, self.count)
             if rule.body is not None:
                 if self._body_holds(node, thing, rule.body):
                     return True

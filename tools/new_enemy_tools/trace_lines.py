@@ -7,8 +7,9 @@ import says of the whole in ignored keys of a trace's first line and its last.
 import json
 import re
 import sys
+from collections import Counter
 from json.encoder import encode_basestring  # type: ignore[attr-defined]
-from typing import Iterable, Iterator, NamedTuple, Optional
+from typing import Iterable, Iterator, Mapping, NamedTuple, Optional
 
 from new_enemy_tools import limits, strictjson, texts
 
@@ -105,7 +106,6 @@ COMMIT_START = b'{"kind":"commit","at":'
 CHECK_START = b'{"kind":"check","goal":'
 CONTENT_START = b'{"kind":"content","goal":'
 KIND_START = b'{"kind":"'
-RECORD_START = b'{"line":'
 ATS = re.compile(rb"\n%s(%s)[,}]" % (re.escape(COMMIT_START), NUMBER))
 TOUCHED = re.compile(rb'"([^"@]+)@')
 MEMBER = re.compile(rb"@[a-z]")
@@ -200,14 +200,24 @@ def value_in(line: bytes) -> strictjson.Object:
 class Counted(NamedTuple):
     """How many checks there are, those that have some keys, and how many content checks."""
 
-    checks: int
-    contents: int
-    with_version: int
-    with_token: int
-    with_unknown: int
-    # entries that stand before, at another state, and the causes for which others are audited in part
-    again: int
-    part: tuple[str, ...]
+    checks: int = 0
+    contents: int = 0
+    with_version: int = 0
+    with_token: int = 0
+    with_unknown: int = 0
+    # entries that stand before, at another state, and of those in part how many by cause
+    again: int = 0
+    part: Mapping[str, int] = {}
+
+    @property
+    def entries(self) -> int:
+        return self.checks + self.contents - self.again
+
+    def plus(self, other: "Counted", times: int = 1) -> "Counted":
+        part = Counter(self.part)
+        for cause, count in other.part.items():
+            part[cause] += times * count
+        return Counted._make([*(one + times * more for one, more in zip(self[:6], other[:6])), +part])
 
 
 _COUNTED = (b"version", b"zookie", b"named")
@@ -223,11 +233,7 @@ def counted_in(lines: bytes) -> Counted:
     for line in lines.split(b"\n"):
         (odd if b"\\" in line or not line.startswith(KIND_START) or line.count(b'"kind"') != 1 else some).append(line)
     plain = _plainly(b"\n".join(some))
-    return _sum(_by_value(some if plain is None else odd), _by_value(odd) if plain is None else plain)
-
-
-def _sum(one: Counted, other: Counted) -> Counted:
-    return Counted(*(mine + more for mine, more in zip(one, other)))  # type: ignore[operator]
+    return _by_value(some if plain is None else odd).plus(_by_value(odd) if plain is None else plain)
 
 
 def _plainly(lines: bytes) -> Optional[Counted]:
@@ -245,7 +251,7 @@ def _plainly(lines: bytes) -> Optional[Counted]:
     if max(counts) > checks:
         return None
     again, part = _told_of(line for line in lines.split(b"\n")) if b'"again"' in lines or b'"part"' in lines else (0, [])
-    return Counted(checks, contents, counts[0], counts[1], counts[2], again, tuple(part))
+    return Counted(checks, contents, counts[0], counts[1], counts[2], again, Counter(part))
 
 
 def _told_of(lines: Iterator[bytes]) -> tuple[int, list[str]]:
@@ -271,7 +277,7 @@ def _by_value(lines: list[bytes]) -> Counted:
     checks = [value for value in entries if value["kind"] == "check"]
     keys = [sum([value.get(key.decode()) is not None for value in checks]) for key in _COUNTED]
     return Counted(len(checks), len(entries) - len(checks), keys[0], keys[1], keys[2], sum([value.get("again") is True for value in entries]),
-                   tuple(value["part"] for value in entries if isinstance(value.get("part"), str)))
+                   Counter(value["part"] for value in entries if isinstance(value.get("part"), str)))
 
 
 # Lines as they are written
@@ -333,7 +339,7 @@ def entry_line(kind: str, goal: str, look: str, line: int, time: Optional[str], 
 
 _MARK = re.compile(rb'"coverage":(\{[^\\\n]*\})\}\r?$', re.MULTILINE)
 # What stands behind a line in place of its last bracket.
-IDS, STRATA, COVERAGE = "ids", "strata", "coverage"
+IDS, STRATA = "ids", "strata"
 
 
 def mark_text(**said: object) -> str:

@@ -1,9 +1,9 @@
-"""How long it takes from a reply to an alert: monitor_latency.py PROGRAM [SECONDS [RATE [ENEMIES]]]
+"""How long it takes from a reply to an alert: monitor_latency.py PROGRAM [SECONDS [RATE [ENEMIES]]] [--spicedb]
 
-A service that speaks OpenFGA's interface, a recorder in front of it, a monitor beside that, and a webhook. A client
-asks so many checks a second (RATE) over 16 connections, and each second lets so many new enemies in (ENEMIES): a user
-is removed, a version is saved, and the user asks for it and gets a reply from before. Printed is how long after that
-reply the webhook had it, and what each process took.
+The stand-in of OpenFGA with a cache, or that of SpiceDB, a recorder in front of it, a monitor beside that, and a
+webhook. A client asks so many checks a second (RATE) over 16 connections, and each second lets so many new enemies in
+(ENEMIES): a user is removed, a version is saved, and the user asks for it until a reply is from before. Printed is how
+long after that reply the webhook had it, and what each process took.
 """
 import asyncio
 import json
@@ -13,69 +13,15 @@ import sys
 import tempfile
 import threading
 import time
-from datetime import datetime, timezone
 from http.server import BaseHTTPRequestHandler, ThreadingHTTPServer
-from urllib.parse import parse_qs, urlsplit
 
 sys.path.insert(0, os.path.dirname(os.path.dirname(os.path.abspath(__file__))))
 
 from tests.ports import free_port
 from tests.recording_latency import MODEL, STORE, TOOLS, processor
+from tests.stand_in_spicedb import object_of, relationship_of
 
-CONNECTIONS, PAGE = 16, 100
-
-
-class Service(asyncio.Protocol):
-    """All connections have one store. A check that does not ask for the newest state of a document `early..` sees
-    what was there before the document's last change."""
-
-    changes: list = []
-    stored: set = set()
-
-    def connection_made(self, transport):
-        self.transport, self.data = transport, b""
-
-    def data_received(self, data):
-        self.data += data
-        while b"\r\n\r\n" in self.data:
-            head, _, rest = self.data.partition(b"\r\n\r\n")
-            length = next((int(line.split(b":")[1]) for line in head.split(b"\r\n")
-                           if line.lower().startswith(b"content-length:")), 0)
-            if len(rest) < length:
-                return
-            self.data = rest[length:]
-            answer = json.dumps(self.answer(head.split(b" ", 2)[1].decode(),
-                                            json.loads(rest[:length] or b"null"))).encode()
-            head = b"HTTP/1.1 200 OK\r\nContent-Type: application/json\r\nContent-Length: %d\r\n\r\n" % len(answer)
-            self.transport.write(head + answer)
-
-    def answer(self, path, body):
-        url = urlsplit(path)
-        if url.path.endswith("/check"):
-            key = tuple(body["tuple_key"][name] for name in ("user", "relation", "object"))
-            is_early = key[2].startswith("document:early") and body.get("consistency") != "HIGHER_CONSISTENCY"
-            return {"allowed": is_early or key in self.stored, "resolution": ""}
-        if url.path.endswith("/write"):
-            at = datetime.now(timezone.utc).strftime("%Y-%m-%dT%H:%M:%S.%fZ")
-            for kind, change in (("writes", self.stored.add), ("deletes", self.stored.discard)):
-                for one in body.get(kind, {}).get("tuple_keys", ()):
-                    change((one["user"], one["relation"], one["object"]))
-                    self.changes.append({"tuple_key": one, "operation": "TUPLE_OPERATION_" + kind[:-1].upper(),
-                                         "timestamp": at})
-            return {}
-        if url.path.endswith("/changes"):
-            start = int(parse_qs(url.query).get("continuation_token", ["0"])[0] or 0)
-            page = self.changes[start:start + PAGE]
-            return {"changes": page, "continuation_token": str(start + len(page)) if page or start else ""}
-        if url.path.endswith("/authorization-models"):
-            return {"authorization_models": [MODEL], "continuation_token": ""}
-        return {"stores": [{"id": STORE}], "continuation_token": ""}
-
-
-async def serve():
-    server = await asyncio.get_running_loop().create_server(Service, "127.0.0.1", 0)
-    print(server.sockets[0].getsockname()[1], flush=True)
-    await server.serve_forever()
+CONNECTIONS = 16
 
 
 class Connection(asyncio.Protocol):
@@ -92,32 +38,73 @@ class Connection(asyncio.Protocol):
         if self.data.endswith(b"}") and self.answered is not None and not self.answered.done():
             self.answered.set_result(json.loads(self.data.partition(b"\r\n\r\n")[2]))
 
-    async def ask(self, call, body, **headers):
+    async def ask(self, path, body, **headers):
         self.data, self.answered = b"", asyncio.get_running_loop().create_future()
         data, more = json.dumps(body).encode(), "".join("%s: %s\r\n" % (name.replace("_", "-"), value) for name,
                                                         value in headers.items())
-        head = "POST /stores/%s/%s HTTP/1.1\r\nHost: x\r\nContent-Type: application/json\r\n%sContent-Length: %d\r\n\r\n"
-        self.transport.write((head % (STORE, call, more, len(data))).encode() + data)
+        head = "POST %s HTTP/1.1\r\nHost: x\r\nContent-Type: application/json\r\n%sContent-Length: %d\r\n\r\n"
+        self.transport.write((head % (path, more, len(data))).encode() + data)
         return await self.answered
 
 
-def check(user, thing, consistency="HIGHER_CONSISTENCY"):
-    return {"tuple_key": {"user": "user:" + user, "relation": "viewer", "object": "document:" + thing},
-            "consistency": consistency}
+class OpenFga:
+    """What is asked of it, as a path and a body."""
+
+    name, stand_in = "openfga", ["stand_in_openfga_cache.py", "0", "model.json"]
+
+    @staticmethod
+    def check(user, relation, thing, is_newest=True):
+        return "/stores/%s/check" % STORE, {
+            "tuple_key": {"user": "user:" + user, "relation": "viewer", "object": "document:" + thing},
+            "consistency": "HIGHER_CONSISTENCY" if is_newest else "MINIMIZE_LATENCY"}
+
+    @staticmethod
+    def write(is_added, *tuples):
+        keys = [{"user": "user:" + user, "relation": "viewer", "object": "document:" + thing}
+                for user, _, thing in tuples]
+        return "/stores/%s/write" % STORE, {"writes" if is_added else "deletes": {"tuple_keys": keys}}
+
+    @staticmethod
+    def is_allowed(answer):
+        return answer["allowed"]
 
 
-async def let_in(connection, number, replied):
+class SpiceDb:
+    name, stand_in = "spicedb", ["stand_in_spicedb.py", "0"]
+
+    @staticmethod
+    def check(user, relation, thing, is_newest=True):
+        return "/v1/permissions/check", {
+            "resource": object_of("document:" + thing), "permission": {"owner": "edit"}.get(relation, "view"),
+            "subject": {"object": object_of("user:" + user)},
+            "consistency": {"fullyConsistent" if is_newest else "minimizeLatency": True}}
+
+    @staticmethod
+    def write(is_added, *tuples):
+        return "/v1/relationships/write", {"updates": [
+            {"operation": "OPERATION_" + ("TOUCH" if is_added else "DELETE"),
+             "relationship": relationship_of(("document:" + thing, relation, "user:" + user, ""))}
+            for user, relation, thing in tuples]}
+
+    @staticmethod
+    def is_allowed(answer):
+        return answer["permissionship"] == "PERMISSIONSHIP_HAS_PERMISSION"
+
+
+async def let_in(service, connection, number, replied):
     """A new enemy by its number; when the reply was there that let it in."""
     user, thing = "enemy%d" % number, "early%d" % number
-    mine = [{"user": "user:" + one, "relation": "viewer", "object": "document:" + thing} for one in (user, "owner")]
-    await connection.ask("write", {"writes": {"tuple_keys": mine}})
-    await connection.ask("write", {"deletes": {"tuple_keys": mine[:1]}})
-    await connection.ask("check", check("owner", thing), X_Content_Save="v%d" % number)
-    await connection.ask("check", check(user, thing, "MINIMIZE_LATENCY"), X_Content_Version="v%d" % number)
+    mine = [(user, "viewer", thing), ("owner%d" % number, "owner", thing)]
+    await connection.ask(*service.write(True, *mine))
+    await connection.ask(*service.write(False, *mine[:1]))
+    await connection.ask(*service.check(*mine[1]), X_Content_Save="v%d" % number)
+    asked = service.check(*mine[0], False)
+    while not service.is_allowed(await connection.ask(*asked, X_Content_Version="v%d" % number)):
+        pass
     replied["document:" + thing] = time.time()
 
 
-async def load(port, seconds, rate, enemies, replied):
+async def load(service, port, seconds, rate, enemies, replied):
     loop, free = asyncio.get_running_loop(), asyncio.Queue()
     connected = [(await loop.create_connection(Connection, "127.0.0.1", port))[1] for _ in range(CONNECTIONS + 1)]
     for one in connected[1:]:
@@ -125,13 +112,13 @@ async def load(port, seconds, rate, enemies, replied):
 
     async def one_check(number):
         connection = await free.get()
-        await connection.ask("check", check("u%d" % (number % 1000), "d%d" % (number % 100)))
+        await connection.ask(*service.check("u%d" % (number % 1000), "viewer", "d%d" % (number % 100)))
         free.put_nowait(connection)
 
     async def plant():
         for number in range(int(seconds * enemies)):
             await asyncio.sleep(max(0, start + number / enemies - time.perf_counter()))
-            await let_in(connected[0], number, replied)
+            await let_in(service, connected[0], number, replied)
     start, waiting = time.perf_counter(), []
     waiting.append(asyncio.ensure_future(plant()))
     for number in range(int(seconds * rate)):
@@ -165,19 +152,21 @@ def shown(times):
 
 
 def main(words):
-    if words == ["serve"]:
-        asyncio.run(serve())
-        return
+    kind = SpiceDb if "--spicedb" in words else OpenFga
+    words = [word for word in words if word != "--spicedb"]
     program, numbers = os.path.abspath(words[0]), [*words[1:], *("20", "1000", "2")[len(words) - 1:]]
     seconds, rate, enemies = map(float, numbers)
     hook = ThreadingHTTPServer(("127.0.0.1", 0), Hook)
     hook.heard = {}
     threading.Thread(target=hook.serve_forever, daemon=True).start()
     with tempfile.TemporaryDirectory() as room:
-        service = subprocess.Popen([sys.executable, __file__, "serve"], stdout=subprocess.PIPE, text=True)
-        port, at, replied = int(service.stdout.readline()), free_port(), {}
+        with open(os.path.join(room, "model.json"), "w", encoding="utf-8") as file:
+            json.dump(MODEL, file)
+        service = subprocess.Popen([sys.executable, os.path.join(TOOLS, "tests", kind.stand_in[0]), *kind.stand_in[1:]],
+                                   cwd=room, stdout=subprocess.PIPE, text=True)
+        port, at, replied = int(service.stdout.readline().split()[-1]), free_port(), {}
         log = os.path.join(room, "log")
-        recorder = subprocess.Popen([sys.executable, os.path.join(TOOLS, "record"), "--openfga",
+        recorder = subprocess.Popen([sys.executable, os.path.join(TOOLS, "record"), "--" + kind.name,
                                      "http://127.0.0.1:%d" % port, "--listen",
                                      "127.0.0.1:%d" % at, "--out", log], stderr=subprocess.PIPE, text=True)
         recorder.stderr.readline()
@@ -187,7 +176,7 @@ def main(words):
                                    stderr=subprocess.PIPE, text=True)
         monitor.stderr.readline()
         try:
-            took = asyncio.run(load(at, seconds, rate, enemies, replied))
+            took = asyncio.run(load(kind, at, seconds, rate, enemies, replied))
             until = time.monotonic() + 60
             while len(hook.heard) < len(replied) and time.monotonic() < until:
                 time.sleep(0.1)

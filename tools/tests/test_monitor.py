@@ -278,7 +278,8 @@ class Growing(Monitoring):
         data = [(name, self.get(os.path.join("whole", name)).encode())
                 for name in sorted(os.listdir(self.path("whole")))]
         os.mkdir(self.path("log"))
-        pieces = [(name, text[at:at + 2_000]) for name, text in data for at in range(0, len(text), 2_000)]
+        size = min(2_000, sum(len(text) for _, text in data) // KILLS)
+        pieces = [(name, text[at:at + size]) for name, text in data for at in range(0, len(text), size)]
         turns = max(1, len(pieces) // KILLS)
         for turn in range(KILLS):
             one = self.monitor()

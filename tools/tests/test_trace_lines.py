@@ -185,8 +185,8 @@ class Forms(Case):
             self.assertEqual((found.checks, found.contents), (len(checks), len(values) - len(checks)), some)
             self.assertEqual([found.with_version, found.with_token, found.with_unknown],
                              [sum(value.get(key) is not None for value in checks) for key in ("version", "zookie", "named")], some)
-            self.assertEqual((found.again, sorted(found.part)), (sum(value.get("again") is True for value in values),
-                                                                 sorted(value["part"] for value in values if isinstance(value.get("part"), str))), some)
+            self.assertEqual((found.again, found.part), (sum(value.get("again") is True for value in values), Counter(
+                value["part"] for value in values if isinstance(value.get("part"), str))), some)
 
     def test_times_of_lines_that_begin_as_commits(self):
         some = [raw for raw in self.lines() if raw.startswith(b'{"kind":"commit","at":') and value_of(raw) is not None]

@@ -2,18 +2,11 @@
 import os
 import re
 import socket
-import subprocess
-import sys
 from typing import List
 
 from tests.documents import WAIT, Bash, Shown, read, transcripts
 
 PAGE = ("docs", "TUTORIAL.md")
-
-
-def cron_line() -> str:
-    [block] = re.findall(r"(?ms)^```crontab\n(.*?)\n^```$", read(*PAGE))
-    return str(block)
 
 
 def starting_over() -> str:
@@ -41,7 +34,6 @@ class Tutorial(Walked):
         self.assertIn("user:bob was let in", self.get("report.html"))
         self.assertEqual(self.get("days", "day000001", "report.txt").splitlines()[-1], "verdict dirty")
         self.assertIn("cannot show F1 stale", self.get("days", "day000001", "import.txt"))
-        self.from_cron()
         self.a_second_walk()
 
     def a_second_walk(self) -> None:
@@ -53,16 +45,6 @@ class Tutorial(Walked):
         self.assertEqual(bash.printed(starting_over()), "")
         self.assertFalse(os.path.exists(audits))
         self.assertEqual(os.listdir(self.room), ["new_enemy"])
-
-    def from_cron(self) -> None:
-        """The line for cron, with no more than cron gives: it finds the folder, the tools and the days, and no new file."""
-        command, python = cron_line().split(" ", 5)[5], os.path.dirname(sys.executable)
-        run = subprocess.run(["/bin/sh", "-c", command], env={"HOME": self.room, "PATH": python + ":/usr/bin:/bin"}, capture_output=True, text=True,
-                             timeout=300)
-        self.assertEqual((run.returncode, run.stdout, run.stderr), (8, "", "day: no file of the log is new and complete\n"))
-
-    def test_the_line_for_cron_is_the_command_of_the_page(self) -> None:
-        self.assertEqual(re.sub(" --at-least [0-9]+", "", cron_line().split(" && ")[1]), transcripts(read(*PAGE))[-2][0].splitlines()[-1])
 
     def test_it_is_the_whole_way(self) -> None:
         used = {found for command, _ in transcripts(read(*PAGE)) for found in re.findall(r"tools/ne (\w+)|new_enemy (audit)", command)}

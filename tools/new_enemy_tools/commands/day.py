@@ -33,7 +33,7 @@ from new_enemy_tools.ids import Ids
 from new_enemy_tools.importing.chained import end_of, head_of
 from new_enemy_tools.importing.going_on import cut, read_left, write_left
 from new_enemy_tools.importing.packed import Version
-from new_enemy_tools.labels import Labels
+from new_enemy_tools.labels import Labels, labels_of
 from new_enemy_tools.progress import Progress
 from new_enemy_tools.shown import tell as tell_line
 from new_enemy_tools.windowing.audited_window import Audited, audited
@@ -42,7 +42,7 @@ from new_enemy_tools.windowing.days import COMPARED, INDEX, JOINED_LOG, MAIL, PA
 from new_enemy_tools.windowing.keeping import keep_trace
 from new_enemy_tools.windowing.own_lines import Own
 from new_enemy_tools.windowing.state import CARRY, NOTHING, State, read_state, write_beside
-from new_enemy_tools.windowing.window_effects import labels_at, texts_of
+from new_enemy_tools.windowing.window_effects import texts_of
 from new_enemy_tools.windowing.window_faults import WindowFault
 
 # The worst of two runs first.
@@ -210,7 +210,7 @@ def made(days: Days, given: Namespace, digest: str, progress: Progress) -> int:
 def kept(days: Days, given: Namespace, own: Own, found: Audited, ids: Optional[Ids], digest: str) -> int:
     """Makes a day of what was found, in the folder that is worked in, where its carry is; its number."""
     write_beside(days.work(), found.new)
-    labels = labels_at(found, own)
+    labels = labels_of(found.counted(own))
     write_reports(days, found, own, ids, labels, given.said)
     if given.html:
         # Days without pages need not wait until this is loaded.

@@ -265,7 +265,7 @@ class Reader:
             return []
         reply, snapshot, shown, token, version, asked = look
         token = None if token == NEWEST else token
-        goal = (*(text.decode() for text in found.group(*shape.goal)), None)
+        goal = (*map(bytes.decode, found.group(*shape.goal)), None)
         return [("content", self.path, number, goal, reply, snapshot, shown, token, version, None, False, asked, sequence_in(shape, found),
                  nanoseconds(time.decode()) if time else None, self.path, None, None)]
 
@@ -273,11 +273,12 @@ class Reader:
         """The row of an entry between two states; nothing where it has to be read in full."""
         said = shape.said(found)
         is_newest = NEWEST_BETWEEN[0] in said
-        lowest, snapshot = (int(needed(said, name)) for name in (NEWEST_BETWEEN if is_newest else SNAPSHOT_BETWEEN))
+        low, high = NEWEST_BETWEEN if is_newest else SNAPSHOT_BETWEEN
+        lowest, snapshot = int(needed(said, low)), int(needed(said, high))
         if lowest > snapshot:
             return []
         token, version = said.get("token"), said.get("version")
-        goal = (*(text.decode() for text in found.group(*shape.goal)), None)
+        goal = (*map(bytes.decode, found.group(*shape.goal)), None)
         return [(needed(said, "event").decode(), self.path, number, goal, said["reply"] == b"true", snapshot,
                  "between %d and %d" % (lowest, snapshot), None if token is None else int(token),
                  None if version is None else version.decode(), lowest, is_newest, None, sequence_in(shape, found),

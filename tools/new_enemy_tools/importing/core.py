@@ -414,7 +414,7 @@ class Core:
         made += [entry._replace(kind="check", snapshot=at, token=None, version=None, part=None, named=None) for at in others]
         for number, one in enumerate(made):
             behind = self.taken.states.place(one.snapshot or 0) if entry.newest else place
-            line = shown.entry(one, number > 0)
+            line = shown.entry(one, number > 0, str(goal))
             if behind > place:
                 waiting.setdefault(behind, []).append(line)
             else:

@@ -101,12 +101,13 @@ class Shown:
         return [look_text(times[snapshot], reply, None if token is None else texts.zookie_text(times[token]), version, shown, source)
                 for reply, snapshot, shown, token, version, _ in looks]
 
-    def entry(self, row: tuple[Any, ...], is_again: bool = False) -> str:
-        """The line of an entry, by the fields of its row; and whether it is one that stands before, at another state."""
+    def entry(self, row: tuple[Any, ...], is_again: bool = False, text: str = "") -> str:
+        """The line of an entry, by the fields of its row, and the text of its goal where that is known; and whether it is one that stands
+        before, at another state."""
         kind, file, line, goal, reply, snapshot, shown, token, version = row[:9]
         ids = self.ids
-        text = "%s:%s#%s@%d" % (ids.name("namespace", goal[0]), ids.object(goal[0], goal[1]), ids.name("relation", goal[2]),
-                                ids.number("user", goal[3], goal[4]))
+        text = text or "%s:%s#%s@%d" % (ids.name("namespace", goal[0]), ids.object(goal[0], goal[1]), ids.name("relation", goal[2]),
+                                        ids.number("user", goal[3], goal[4]))
         token = self.demanded(goal, version, snapshot, token)
         look = Look(reply, snapshot, shown, token, None if version is None else ids.version(version), None)
         part, named = row[15:17]

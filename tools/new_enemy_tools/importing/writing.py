@@ -1,6 +1,6 @@
 """What is told of a trace that was written."""
 from collections import Counter
-from typing import Any, Callable, Iterator, NamedTuple, Optional
+from typing import Callable, Iterator, Optional
 
 from new_enemy_tools.coverage import Coverage
 from new_enemy_tools.importing.events import Entry

@@ -2,7 +2,7 @@
 from collections import Counter
 from typing import Any, Mapping, NamedTuple
 
-from new_enemy_tools.labels import Labels
+from new_enemy_tools.labels import Labels, labels_of
 from new_enemy_tools.monitoring.core import Core
 from new_enemy_tools.recording.metrics import family
 
@@ -25,7 +25,7 @@ class Before(NamedTuple):
         coverage = core.coverage()
         return Before(self.entries + core.run.entries, _sum(self.not_audited, coverage.not_audited),
                       _sum(self.in_part, coverage.in_part), _sum(self.lost, coverage.lost),
-                      self.gaps + coverage.uncounted, self.labels.plus(core.run.counts.labels),
+                      self.gaps + coverage.uncounted, self.labels.plus(labels_of(core.run.counted)),
                       self.elsewhere + coverage.elsewhere)
 
 

@@ -5,14 +5,14 @@ from collections import Counter, deque
 from hashlib import blake2b
 from typing import Callable, NamedTuple, Optional
 
-from new_enemy_tools.coverage import NO_LINES, Coverage, Lines, lines_in
+from new_enemy_tools.coverage import Coverage
 from new_enemy_tools.effects import RatedFinding
 from new_enemy_tools.entries import Commit
 from new_enemy_tools.findings import ON_TOKENS, Finding, Report, finding_of
 from new_enemy_tools.ids import Ids
 from new_enemy_tools.importing import causes
 from new_enemy_tools.importing.going_on import Left
-from new_enemy_tools.labels import Labels, labels_in
+from new_enemy_tools.labels import Labels
 from new_enemy_tools.limits import LINE_BYTES
 from new_enemy_tools.monitoring.faults import MonitorFault
 from new_enemy_tools.monitoring.holding import CHECKS, time_of
@@ -21,7 +21,7 @@ from new_enemy_tools.names import Names
 from new_enemy_tools.telling import Telling, telling_of, told_of
 from new_enemy_tools.token_order import ignored
 from new_enemy_tools.trace import Refusal, Trace
-from new_enemy_tools.trace_lines import CHECK_START, CONTENT_START, is_utf8, may_issue, snapshots_in
+from new_enemy_tools.trace_lines import CHECK_START, CONTENT_START, Counted, counted_in, is_utf8, may_issue, snapshots_in
 from new_enemy_tools.windowing.audited_window import Audited
 from new_enemy_tools.windowing.beginning import Keep, begun, oldest_of
 from new_enemy_tools.windowing.following import BELOW, SUM, Told, told_by
@@ -49,13 +49,6 @@ class Through(NamedTuple):
     line: int
     entries: int
     open: int
-
-
-class OwnCounts(NamedTuple):
-    """What the own lines of a run say of themselves."""
-
-    lines: Lines
-    labels: Labels
 
 
 class Piece(NamedTuple):
@@ -93,7 +86,8 @@ class Run:
         self.names = Names(begun.ids)
         self.through = Through(0, 0, 0)
         self.findings = 0
-        self.counts = OwnCounts(NO_LINES, Labels(0, 0, 0))
+        # what its own lines say of themselves
+        self.counted = Counted()
         # the trace's own bytes
         self.bytes = 0
         # what is not settled yet
@@ -141,7 +135,7 @@ class Run:
 
     def _see(self, text: bytes) -> None:
         self.digest.update(text)
-        self.counts = OwnCounts(self.counts.lines.plus(lines_in(text)), self.counts.labels.plus(labels_in(text)))
+        self.counted = self.counted.plus(counted_in(text))
         if self.state.base is not None:
             self._low += sum(snapshot < self.state.base for snapshot in snapshots_in(text))
         for self.lines, raw in enumerate(text.split(b"\n")[:-1], self.lines + 1):

@@ -106,7 +106,7 @@ def ended(days: Days, program: str, run: Run, status: int, file: RunFile) -> Aud
     """What a run comes to whose program has ended."""
     coverage = run.stream.coverage()
     file.end(mark_of(coverage))
-    own, told = Own(file.path), run.told_all(status)
+    own, told = Own(file.path, run.counted), run.told_all(status)
     new, given_up = state_behind(own, run.state, read_bytes(days.work(CARRY)), run.keep)
     return window_of(own, run.state, new, untold(program, run.state).plus(told), given_up, True, coverage)
 
@@ -119,7 +119,7 @@ def keep(days: Days, given: Namespace, run: Run, found: Audited, stories: dict[s
     write_whole(days.work(MONITORED), [json.dumps({"place": list(place), "stories": {key: list(one) for key, one in stories.items()}})])
     if os.path.exists(days.work(BEGUN)):
         os.remove(days.work(BEGUN))
-    return kept(days, given, Own(file.path), found, run.begun.ids, run.digest.hexdigest())
+    return kept(days, given, Own(file.path, run.counted), found, run.begun.ids, run.digest.hexdigest())
 
 
 def options(folder: str, program: str, names: list[str], html: bool, keep_days: int, allow: float, snapshots: int,

@@ -4,9 +4,9 @@ import tempfile
 from typing import Callable, NamedTuple, Optional
 
 from new_enemy_tools import limits, strictjson
-from new_enemy_tools.coverage import NO_LINES, Coverage, Lines, coverage_of, lines_in, marks_in
+from new_enemy_tools.coverage import Coverage, coverage_of, marks_in
 from new_enemy_tools.files import read_bytes
-from new_enemy_tools.trace_lines import is_imported
+from new_enemy_tools.trace_lines import Counted, counted_in, is_imported
 from new_enemy_tools.windowing.beginning import Keep, begun, head_behind, oldest_of, version_of
 from new_enemy_tools.windowing.carries import Carry
 from new_enemy_tools.windowing.following import Follow, Told, untold
@@ -26,9 +26,10 @@ class Audited(NamedTuple):
     new: State
     entries: int
 
-    def rows_waiting(self) -> tuple[list[bytes], list[bytes]]:
-        """The lines of the entries that waited before, and of those that wait now."""
-        return [row.raw for row in self.old.waiting], [row.raw for row in self.new.waiting]
+    def counted(self, own: Own) -> Counted:
+        """Of the entries that are told: its own and those that were held over, but for those that are held over now."""
+        before, after = [counted_in(b"\n".join(row.raw for row in state.waiting)) for state in (self.old, self.new)]
+        return own.counted.plus(before).plus(after, -1)
 
 
 def audited(own: Own, old: State, program: str, keep: Keep, out: Optional[str], is_final: bool, step: Step, said: Optional[Coverage] = None) -> Audited:
@@ -93,13 +94,9 @@ def unknown_in(old: State, new: State, told: Told) -> set[int]:
 
 def coverage_before(found: Audited, own: Own, said: Optional[Coverage]) -> Coverage:
     """What was looked at of the entries that are told with a window: of its own lines, as their import says or said, and of entries that waited."""
-    lines: Lines = NO_LINES
-    marks: list[Coverage] = []
     with own.open() as file:
         is_ours = is_imported(file.readline(limits.LINE_BYTES + 1))
-    for block in own.blocks():
-        lines, marks = lines.plus(lines_in(block)), marks + marks_in(block)
-    covered = coverage_of(lines, marks if said is None else [said], is_ours and lines.checks > 0)
-    before, after = [lines_in(b"\n".join(raws)) for raws in found.rows_waiting()]
-    lines = lines.plus(before).plus(after, -1)
-    return covered._replace(checks=lines.checks, in_part=dict(lines.in_part))
+    marks = [mark for block in own.blocks() for mark in marks_in(block)] if said is None else [said]
+    covered = coverage_of(own.counted, marks, is_ours and own.counted.entries > 0)
+    told = found.counted(own)
+    return covered._replace(checks=told.entries, in_part=dict(told.part))

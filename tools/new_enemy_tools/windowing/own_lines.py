@@ -1,11 +1,12 @@
 """The own lines of a window: those of a file, which is not to change while it is read."""
 import os
+from functools import reduce
 from typing import BinaryIO, Iterator, Optional
 
 from new_enemy_tools import limits, trace_lines
 from new_enemy_tools.parting.blocks import Blocks
 from new_enemy_tools.pieces import START
-from new_enemy_tools.trace_lines import commit_at, kind_of
+from new_enemy_tools.trace_lines import Counted, commit_at, counted_in, kind_of
 from new_enemy_tools.windowing.window_faults import WindowFault
 
 # A line of the log: its number, and its bytes.
@@ -13,8 +14,9 @@ Numbered = tuple[int, bytes]
 
 
 class Own:
-    def __init__(self, path: str):
-        self.path = path
+    def __init__(self, path: str, counted: Optional[Counted] = None):
+        """What is counted in the lines is not counted again."""
+        self.path, self._counted = path, counted
         with open(path, "rb") as file:
             if file.read(len(START)) == START:
                 raise WindowFault("%s: the trace is in pieces, since it has more bytes than one program takes; give a shorter stretch of the log" % path)
@@ -33,6 +35,12 @@ class Own:
 
     def count(self) -> int:
         return sum(block.count(b"\n") for block in self.blocks())
+
+    @property
+    def counted(self) -> Counted:
+        if self._counted is None:
+            self._counted = reduce(Counted.plus, map(counted_in, self.blocks()), Counted())
+        return self._counted
 
     def strata(self) -> dict[tuple[str, str], int]:
         """The strata of relations, where the first line says that they are others than in the windows before."""

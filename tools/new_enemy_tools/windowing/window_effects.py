@@ -6,7 +6,7 @@ from new_enemy_tools.faults import ToolFault
 from new_enemy_tools.findings import ON_TOKENS, Report
 from new_enemy_tools.forms import FORMS, group_lines
 from new_enemy_tools.ids import Ids
-from new_enemy_tools.labels import Labels, labels_in
+from new_enemy_tools.labels import labels_of
 from new_enemy_tools.names import Names
 from new_enemy_tools.telling import Telling, telling_of, told_of
 from new_enemy_tools.trace import Trace, read_lines
@@ -61,14 +61,6 @@ def lines_for(found: Audited, own: Own, has_stories: bool = False) -> Lines:
     return Lines(rows["namespace"], rows["commit"], [one for one in rows["content"] if may_issue(one[1])], wanted)
 
 
-def labels_at(found: Audited, own: Own) -> Labels:
-    """Of the entries that are told with a window: its own and those that were held over, but for those that are held over now."""
-    before, after = [labels_in(b"\n".join(raws)) for raws in found.rows_waiting()]
-    for block in own.blocks():
-        before = before.plus(labels_in(block))
-    return before.plus(after, -1)
-
-
 class Texts(NamedTuple):
     """The findings of a window as rows of JSON, and for people as a line for each group behind one of sums."""
 
@@ -95,7 +87,7 @@ def telling_in_full(found: Audited, own: Own, ids: Optional[Ids]) -> Telling:
 def _telling(trace: Trace, found: Audited, own: Own, ids: Optional[Ids]) -> Telling:
     told = found.report
     report = Report(told.findings, len(trace.entries), told.verdict)
-    telling = telling_of(told_of(trace, report), trace, Names(ids), own.path, report, labels_at(found, own), told.coverage)
+    telling = telling_of(told_of(trace, report), trace, Names(ids), own.path, report, labels_of(found.counted(own)), told.coverage)
     return telling._replace(report=report._replace(entries=told.entries))
 
 
