@@ -55,6 +55,16 @@ class Rows(Unaudited):
         summary = self.summary(1)
         self.assertEqual((summary["status"], summary["verdict"], summary["coverage"]["lost"]), (6, "incomplete", {"the recorder did not follow": 40}))
 
+    def test_a_gap_of_which_nobody_knows_the_length_is_below_no_percent(self):
+        """A recorder that was killed may not know since when, and a clock that was put back may end a gap before it begins."""
+        known = {"event": "gap", "from": "2026-11-26T00:00:01Z", "to": "2026-11-26T00:00:02Z", "reason": "the recorder did not follow"}
+        first, last = ({**check(1), "time": "2026-11-26T%s:00:00Z" % hour} for hour in ("00", "23"))
+        odd = {"event": "gap", "to": "2026-11-26T12:00:00Z", "reason": "the recorder was killed"}
+        for gap, status in ((known, 0), (odd, 6), ({**odd, "from": "2026-11-26T13:00:00Z"}, 6)):
+            self.put("log", [RULES, write(1, rel()), first, known, gap, last])
+            run = self.run_tool("import", "events", "--from-empty", "--allow-unaudited", "1", "log")
+            self.assertEqual(run.returncode, status, (gap, run.stderr))
+
     def test_a_day_whose_checks_all_were_lost_is_refused_by_its_least_count_and_else_incomplete(self):
         self.put("log", [RULES, write(1, rel()), LOST])
         self.assertEqual(self.day().returncode, 2)
