@@ -95,6 +95,39 @@ class Told(KeptCase):
         return re.search("(?m)^line ([0-9]+): F10", self.get("days/day%06d/report.txt" % number))[1]
 
 
+class Index(KeptCase):
+    """The page of all days lacks none that was kept, whenever a run is broken off."""
+
+    def listed(self):
+        return re.findall('<tr><td>(?:<a [^>]*>)?([0-9]+)', self.get("days/index.html"))
+
+    def test_a_day_whose_run_was_broken_off_before_the_index(self):
+        self.put("one", LOG)
+        self.put("two", NEXT)
+        self.day("--html", "days", "events", "--from-empty", "one")
+        os.remove(self.path("days/index.html"))
+        os.mkdir(self.path("days/index.html"))
+        self.day("--html", "days", "events", "--from-empty", "two", status=(5,))
+        os.rmdir(self.path("days/index.html"))
+        self.assertIn("was broken off", self.day("--html", "days", "events", "--from-empty", "two", status=(1,)).stderr)
+        self.assertEqual(self.listed(), ["2", "1"])
+
+    def test_a_run_that_was_killed_while_it_wrote_the_index(self):
+        self.put("one", LOG)
+        self.put("two", NEXT)
+        self.day("--html", "days", "events", "--from-empty", "one")
+        self.put("days/index.html.part", "half of it")
+        self.day("--html", "days", "events", "--from-empty", "two", status=(1,))
+        self.assertEqual(self.listed(), ["2", "1"])
+
+    def test_a_day_without_a_page_stands_in_an_index_that_is_there(self):
+        self.put("one", LOG)
+        self.put("two", NEXT)
+        self.day("--html", "days", "events", "--from-empty", "one")
+        self.day("days", "events", "--from-empty", "two", status=(1,))
+        self.assertEqual(self.listed(), ["2", "1"])
+
+
 class Refused(KeptCase):
     def test_words(self):
         self.two_days()
@@ -160,6 +193,11 @@ class TakenAway(KeptCase):
         self.assertNotIn("day000002/report.html", self.get("days/index.html"))
         self.put("four", [{"event": "check", "goal": ["doc", "9", "viewer", "user", "eve"], "snapshot": 20, "reply": True}])
         self.day("days", "events", "four")
+        # A day that is still to be told stays.
+        os.remove(self.path("days/day000004/told"))
+        self.assertEqual(self.run_tool("forget", "--keep-days", "0", "days").returncode, 0)
+        self.assertIn("verdict", self.get("days/day000004/mail.txt"))
+        self.assertEqual(self.day("days", "events", "four").returncode, 0)
         # A log of a day whose files are gone is known all the same.
         self.assertEqual(self.run_tool("day", *WORDS, "days", "events", "one").returncode, 8)
 

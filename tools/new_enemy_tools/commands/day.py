@@ -227,10 +227,16 @@ def kept(days: Days, given: Namespace, own: Own, found: Audited, ids: Optional[I
     shutil.rmtree(days.work(JOINED_LOG), ignore_errors=True)
     number = days.keep()
     days.tidy(given.keep_days)
-    if given.html:
-        from new_enemy_tools.windowing.day_pages import index
-        write_whole(os.path.join(given.folder, INDEX), index(days))
+    write_index(days, given.html)
     return number
+
+
+def write_index(days: Days, is_wanted: bool) -> None:
+    """Writes the page of all days, where it is wanted or there already: it is to lack none that was kept."""
+    path = os.path.join(days.folder, INDEX)
+    if is_wanted or os.path.exists(path):
+        from new_enemy_tools.windowing.day_pages import index
+        write_whole(path, index(days))
 
 
 def write_reports(days: Days, found: Audited, own: Own, ids: Optional[Ids], labels: Labels, said: list[str]) -> None:
@@ -280,6 +286,7 @@ def taken(days: Days, given: Namespace, progress: Progress) -> int:
     leave_out(days, given)
     digest, last, status = digest_of(given.logs), days.last, 0
     if last is not None and not days.is_told(last):
+        write_index(days, given.html)
         sys.stderr.write("day: day %d was audited by a run that was broken off; its report:\n" % last)
         status = tell(days, last)
         if days.summary(last).digest == digest or not given.logs:
