@@ -210,6 +210,7 @@ def made(days: Days, given: Namespace, digest: str, progress: Progress) -> int:
 def kept(days: Days, given: Namespace, own: Own, found: Audited, ids: Optional[Ids], digest: str) -> int:
     """Makes a day of what was found, in the folder that is worked in, where its carry is; its number."""
     write_beside(days.work(), found.new)
+    found = found._replace(report=found.report._replace(held_back=given.held_back))
     labels = labels_at(found, own)
     write_reports(days, found, own, ids, labels, given.said)
     if given.html:

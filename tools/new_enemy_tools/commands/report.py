@@ -107,15 +107,17 @@ class Teller:
         out = left_out(given.ignore, given.baseline, ids is not None)
         step = self.progress.steps("looked at %s findings")
         if self.day is not None:
-            report, coverage, labels = self.day.report()
+            day = self.day.report()
             # The trace has content checks of the days before too.
-            told = told_of(trace, report._replace(entries=len(trace.entries)), step)
+            told = told_of(trace, day.report._replace(entries=len(trace.entries)), step)
+            telling = telling_of(told, trace, Names(ids), given.trace, day.report, day.labels, day.coverage, out)._replace(
+                held_over=day.held_over, held_back=day.held_back, unjudged=day.unjudged(trace))
         else:
             if self.report is None:
                 self.report = report_text(given.report)
-            report, coverage, labels = read_report(self.report), coverage_in(self.data), labels_in(self.data)
+            report = read_report(self.report)
             told = told_of(trace, report, step)
-        telling = telling_of(told, trace, Names(ids), given.trace, report, labels, coverage, out)
+            telling = telling_of(told, trace, Names(ids), given.trace, report, labels_in(self.data), coverage_in(self.data), out)
         return Rendered(telling, warnings_of(telling, out), [] if given.form == "html" else list(form_of(given.form)(telling)))
 
 
