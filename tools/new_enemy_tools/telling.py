@@ -76,10 +76,10 @@ class Telling(NamedTuple):
         is_clean = self.report.verdict == "clean"
         return self.report.verdict if not is_clean or self.coverage.is_whole else self.coverage.state
 
-    def status(self, allowed: float) -> int:
-        """6 where nothing was found, and more than so many percent of the checks were not looked at whole; else 0, also where nothing was
-        asked, as of an import and a window."""
-        return 0 if self.report.findings or self.coverage.status(allowed) == 0 else INCOMPLETE
+    def status(self, allowed: float, fails_on_some: bool = False) -> int:
+        """6 where more than so many percent of the checks were not looked at whole, and no finding is told or only some of them make who asks
+        fail; else 0, also where nothing was asked, as of an import and a window."""
+        return 0 if self.told and not fails_on_some or self.coverage.status(allowed) == 0 else INCOMPLETE
 
 
 def _entry_of(number: int, finding: Finding, trace: Trace) -> Entry:

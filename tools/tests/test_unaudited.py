@@ -92,6 +92,20 @@ class Rows(Unaudited):
         self.audit("--form", "html", "--out", "page.html")
         self.assertIn('<span class="verdict empty">empty: nothing was audited</span>', self.get("page.html"))
 
+    def test_a_finding_that_does_not_fail_or_is_not_told_hides_no_loss_from_a_pipeline(self):
+        log = [RULES, write(1, rel()), write(2, rel("2")), content(1, "v", token=1)]
+        for more, status in (([LOST], 6), ([], 0)):
+            self.put("log", [*log, *more])
+            self.imported("events", "--from-empty", "log")
+            run = self.audit()
+            self.assertEqual((run.returncode, run.stdout.count('"effect":"none"')), (0, 1))
+            self.put("known", run.stdout)
+            self.put("ignore", [{"finding": "F3", "reason": "it is known", "until": "2099-12-31"}])
+            for words in (["--fail-on", "possible"], ["--baseline", "known"], ["--ignore", "ignore"], ["--baseline", "known", "--fail-on", "none"]):
+                self.assertEqual(self.audit(*words).returncode, status, (words, more))
+            self.assertEqual(self.audit("--fail-on", "none").returncode, 1)
+            self.assertEqual(self.audit("--fail-on", "possible", "--allow-unaudited", "99").returncode, 0)
+
     def test_every_form_says_what_was_lost(self):
         self.put("log", [RULES, write(1, rel()), check(1), LOST])
         self.imported("events", "--from-empty", "log")

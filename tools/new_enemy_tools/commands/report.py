@@ -4,8 +4,8 @@ Each finding has its effect, whether it mattered; the sums come first, and then 
 --baseline FILE tells only what an earlier report, in JSON lines or SARIF, did not tell; --ignore FILE hides findings for a reason and
 until a day (docs/REPORTS.md). --form html writes a page, and of more than a thousand findings the others in files beside that of --out.
 
-The status is 0 where it was written, whatever was found; 1 by --fail-on; 6 where nothing was found, and not everything was looked at, as
-the sum says; 2 where a file is refused, and then nothing is written.
+The status is 0 where it was written, whatever was found; 1 by --fail-on; 6 where nothing is told, or nothing by which --fail-on fails, and
+not everything was looked at, as the sum says; 2 where a file is refused, and then nothing is written.
 """
 import argparse
 import sys
@@ -164,4 +164,6 @@ def main(words: list[str]) -> int:
         else:
             write(rendered.lines, given.out)
     worst = min((one.effect.rank for one in rendered.telling.told), default=len(EFFECTS))
-    return 1 if given.fail_on is not None and worst <= EFFECTS.index(given.fail_on) else rendered.telling.status(given.allow_unaudited)
+    if given.fail_on is not None and worst <= EFFECTS.index(given.fail_on):
+        return 1
+    return rendered.telling.status(given.allow_unaudited, given.fail_on is not None)
