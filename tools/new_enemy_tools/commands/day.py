@@ -144,6 +144,8 @@ def go_on(days: Days, given: Namespace) -> import_logs.Before:
         shutil.copyfile(ids, days.work("ids.jsonl"))
     if path is None and days.before("import.txt") is not None:
         raise WindowFault("the file `left` of day %d is not there, and without it nothing goes on from that day" % (days.last or 0))
+    if path is not None and days.last is not None and days.summary(days.last).left not in ("", digest_of([path])):
+        raise WindowFault("%s is another than day %d left: it was altered, or is of another day" % (path, days.last))
     table = Ids(days.work("ids.jsonl"))
     left = None if path is None else cut(read_left(path), state.base, given.keep_versions, carrying(state, table, given.keep_versions))
     return import_logs.Before(left, state, table)
@@ -220,7 +222,8 @@ def kept(days: Days, given: Namespace, own: Own, found: Audited, ids: Optional[I
     report = found.report
     write_whole(days.work("summary.json"), [json.dumps(Summary(
         given.names, digest, report.status(given.allow_unaudited), report.entries, len(report.findings),
-        sum(report.coverage.not_audited.values()), report.held, report.verdict, report.coverage.row(), labels._asdict(), given.held_back)._asdict())])
+        sum(report.coverage.not_audited.values()), report.held, report.verdict, report.coverage.row(), labels._asdict(), given.held_back,
+        digest_of([days.work("left")]) if os.path.exists(days.work("left")) else "")._asdict())])
     if given.keep_days:
         keep_trace(days.work(), found, own)
     if os.path.exists(days.work("trace")):

@@ -55,6 +55,8 @@ class Summary(NamedTuple):
     looked: dict[str, int] = {}
     # how many checks of joined logs wait for what another log has not closed yet
     held_back: int = 0
+    # the checksum of what its import left
+    left: str = ""
 
 
 class Days:
