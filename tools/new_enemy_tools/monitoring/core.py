@@ -207,9 +207,11 @@ class Core:
         yield from self.look_at_loss()
 
     def look_at_loss(self) -> Iterator[Out]:
-        """Looks at the bound of the loss; also where the run ends, since the next one counts anew."""
+        """Looks at the bound of the loss; also where the run ends, since the next one counts anew, and says nothing before something is asked."""
         coverage = self.coverage()
-        loss = 0.0 if coverage.is_empty or coverage.is_whole else coverage._replace(open=0).percent
+        if coverage.is_empty:
+            return
+        loss = 0.0 if coverage.is_whole else coverage._replace(open=0).percent
         yield from self._bound("loss", loss, self.settings.most_loss,
                                "%s; that is %.2f percent that was not looked at whole" % (
             coverage.said_counts, loss))
