@@ -34,7 +34,7 @@ class Coverage(NamedTuple):
     not_audited: Mapping[str, int] = {}
     # in gaps, as the recorder counted them, by its reasons
     lost: Mapping[str, int] = {}
-    # gaps in which nobody counted, and how long they were together
+    # gaps in which nobody counted, and how long those were together whose length is known
     uncounted: int = 0
     dark: int = 0
     since: Optional[int] = None
@@ -46,6 +46,8 @@ class Coverage(NamedTuple):
     unknown: Optional[str] = None
     # checks of other stores, which are not recorded since somebody said that they are no concern: told, and no part of what is to be looked at
     elsewhere: int = 0
+    # of the gaps in which nobody counted those of which it is not known how long they were
+    undated: int = 0
 
     @property
     def whole(self) -> int:
@@ -73,14 +75,15 @@ class Coverage(NamedTuple):
 
     @property
     def percent(self) -> float:
-        """How much was not looked at: of the checks that were counted, and of the time in which nobody counted."""
+        """How much was not looked at: of the checks that were counted, and of the time in which nobody counted. A gap of which it is not known
+        how long it was may be all of that."""
         asked = self.checks + _count(self.not_audited) + _count(self.lost)
         if not asked or self.unknown is not None:
             return 100.0
         counted = 100 * self.unaudited / asked
         if not self.uncounted:
             return counted
-        if self.since is None or self.until is None or self.until <= self.since or not self.dark:
+        if self.undated or self.since is None or self.until is None or self.until <= self.since or not self.dark:
             return 100.0
         return min(100.0, counted + 100 * self.dark / (self.until - self.since))
 
@@ -101,14 +104,15 @@ class Coverage(NamedTuple):
                         _sum(self.not_audited, other.not_audited), _sum(self.lost, other.lost),
                         self.uncounted + other.uncounted, self.dark + other.dark, min(times, default=None), max(times, default=None),
                         self.open + other.open, self.last_file if other.last_file is None else other.last_file,
-                        self.unknown or other.unknown, self.elsewhere + other.elsewhere)
+                        self.unknown or other.unknown, self.elsewhere + other.elsewhere, self.undated + other.undated)
 
     def row(self) -> dict[str, Any]:
         """As an object of JSON; a key stands there where it has a value."""
         found: dict[str, Any] = {"checks": self.checks, "whole": self.whole, **{
             name: dict(value) for name, value in zip(("in_part", "not_audited", "lost"), self[1:4]) if value}}
-        found.update({name: value for name, value in (("uncounted_gaps", self.uncounted), ("uncounted_ns", self.dark), ("open", self.open),
-                                                      ("last_file", self.last_file), ("unknown", self.unknown), ("other_stores", self.elsewhere)) if value})
+        found.update({name: value for name, value in (("uncounted_gaps", self.uncounted), ("uncounted_ns", self.dark), ("undated_gaps", self.undated),
+                                                      ("open", self.open), ("last_file", self.last_file), ("unknown", self.unknown),
+                                                      ("other_stores", self.elsewhere)) if value})
         found.update({name: text_of_time(value) for name, value in (("from", self.since), ("to", self.until)) if value is not None})
         return found
 
@@ -121,7 +125,8 @@ class Coverage(NamedTuple):
             for cause, count in sorted(counts.items()):
                 yield "%s %d: %s" % (words, count, plain(cause))
         if self.uncounted:
-            yield "gaps in which nobody counted what was asked: %d" % self.uncounted
+            yield "gaps in which nobody counted what was asked: %d%s" % (
+                self.uncounted, ", of unknown length %d" % self.undated if self.undated else "")
         if self.open:
             yield "the log is open: its last file%s is not closed, or full, so more may follow" % ("" if self.last_file is None else ", %d," % self.last_file)
         if self.unknown is not None:
@@ -179,14 +184,14 @@ def of_row(value: object) -> Coverage:
         if not isinstance(given, dict) or not all(type(one) is int and one >= 0 for one in given.values()):
             raise ValueError
         counts.append(counted(given))
-    numbers = [value.get(name, 0) for name in ("checks", "uncounted_gaps", "uncounted_ns", "open", "other_stores")]
+    numbers = [value.get(name, 0) for name in ("checks", "uncounted_gaps", "uncounted_ns", "open", "other_stores", "undated_gaps")]
     if not all(type(one) is int and one >= 0 for one in numbers):
         raise ValueError
     in_part, not_audited, lost = counts
     last, unknown = value.get("last_file"), value.get("unknown")
     return Coverage(numbers[0], in_part, not_audited, lost, numbers[1], numbers[2], nanoseconds(value.get("from")),
                     nanoseconds(value.get("to")), numbers[3], last if type(last) is int else None,
-                    None if unknown is None else ODD.sub("?", str(unknown)), numbers[4])
+                    None if unknown is None else ODD.sub("?", str(unknown)), numbers[4], numbers[5])
 
 
 def mark_of(coverage: Coverage) -> str:

@@ -72,6 +72,7 @@ def sums_row(telling: Telling) -> Row:
                               "text": telling.said}, "groups": len(telling.groups), "service": telling.service, "entries": report.entries,
                      "findings": len(report.findings), "told": len(telling.told), "ignored": len(telling.ignored),
                      "known": len(telling.known), "verdict": report.verdict, "named": telling.names.ids is not None,
+                     "held_over": telling.held_over or None, "held_back": telling.held_back or None,
                      **telling.labels._asdict(), "note": telling.labels.note, "coverage": {"state": telling.coverage.state, **telling.coverage.row()}})
 
 
@@ -184,15 +185,17 @@ def group_lines(telling: Telling) -> Iterator[str]:
 
 
 def junit(telling: Telling) -> Iterator[str]:
-    """A test for each finding, those that are not told as skipped, and behind them one for each entry without a finding."""
+    """A test for each finding, those that are not told as skipped, and behind them one for each entry without a finding; skipped is one that was
+    not judged."""
     trace = telling.trace
     found = {finding.line for finding in telling.report.findings}
     skipped = [(told, "ignored: " + row.reason) for told, row in telling.ignored]
     skipped += [(told, "known from the baseline") for told in telling.known]
+    unjudged = telling.unjudged - found
     yield '<?xml version="1.0" encoding="UTF-8"?>'
     yield '<testsuites><testsuite name="new_enemy" tests="%d" failures="%d" errors="0" skipped="%d">' % (
         len(telling.report.findings) + len(trace.entries) - len(found) + (not telling.coverage.is_whole), len(telling.told),
-        len(skipped) + (not telling.coverage.is_whole))
+        len(skipped) + len(unjudged) + (not telling.coverage.is_whole))
     note = "".join('<property name="note" value=%s/>' % _attribute(_xml(one)) for one in telling.notes)
     yield '<properties><property name="sums" value=%s/><property name="coverage" value=%s/>%s</properties>' % (
         _attribute(telling.said), _attribute(telling.coverage.said), note)
@@ -209,7 +212,8 @@ def junit(telling: Telling) -> Iterator[str]:
         yield "%s><skipped message=%s/></testcase>" % (_case(telling, told.entry), _attribute(_xml(why)))
     for line in trace.entries:
         if line not in found:
-            yield _case(telling, trace.entries[line]) + "/>"
+            end = '><skipped message="not judged with this day"/></testcase>' if line in unjudged else "/>"
+            yield _case(telling, trace.entries[line]) + end
     yield "</testsuite></testsuites>"
 
 

@@ -120,9 +120,9 @@ class Writer:
             markup(self.telling.path), _counted(len(report.findings), "finding", "findings"))
         yield from self._about()
         yield '<p id="coverage">%s.</p>' % markup(coverage.said_counts[0].upper() + coverage.said_counts[1:])
-        if not coverage.is_whole:
-            yield '<ul id="unaudited">%s</ul>' % "".join(
-                "<li>%s</li>" % markup(one) for one in self.telling.notes if one not in (self.telling.labels.note, coverage.said))
+        missing = [one for one in self.telling.notes if one not in (self.telling.labels.note, coverage.said)]
+        if missing:
+            yield '<ul id="unaudited">%s</ul>' % "".join("<li>%s</li>" % markup(one) for one in missing)
         yield '<p id="said">%s.</p>' % markup(self.telling.said)
         if self.telling.labels.note:
             yield '<p id="note">%s</p>' % markup(self.telling.labels.note)

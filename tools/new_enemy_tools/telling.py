@@ -39,6 +39,11 @@ class Telling(NamedTuple):
     others: int
     # the findings that are told, by what was wrong
     groups: list[Group]
+    # of a day how many of its checks wait for one whose writes come to their snapshots, and for other logs; and the lines of entries that
+    # were not judged with it
+    held_over: int = 0
+    held_back: int = 0
+    unjudged: frozenset[int] = frozenset()
 
     @property
     def service(self) -> Optional[str]:
@@ -59,6 +64,10 @@ class Telling(NamedTuple):
         covered = [] if self.coverage.is_plain else list(self.coverage.lines())
         if self.coverage.is_empty:
             covered.append("nothing was audited: the trace has no check")
+        if self.held_over:
+            covered.append("held over %d: the replies of these checks are judged with the day whose writes come to their snapshots" % self.held_over)
+        if self.held_back:
+            covered.append("held back %d: these checks are audited when all logs have come as far" % self.held_back)
         return covered + ([] if self.labels.note is None else [self.labels.note])
 
     @property
@@ -67,10 +76,10 @@ class Telling(NamedTuple):
         is_clean = self.report.verdict == "clean"
         return self.report.verdict if not is_clean or self.coverage.is_whole else self.coverage.state
 
-    def status(self, allowed: float) -> int:
-        """6 where nothing was found, and more than so many percent of the checks were not looked at whole; else 0, also where nothing was
-        asked, as of an import and a window."""
-        return 0 if self.report.findings or self.coverage.status(allowed) == 0 else INCOMPLETE
+    def status(self, allowed: float, fails_on_some: bool = False) -> int:
+        """6 where more than so many percent of the checks were not looked at whole, and no finding is told or only some of them make who asks
+        fail; else 0, also where nothing was asked, as of an import and a window."""
+        return 0 if self.told and not fails_on_some or self.coverage.status(allowed) == 0 else INCOMPLETE
 
 
 def _entry_of(number: int, finding: Finding, trace: Trace) -> Entry:

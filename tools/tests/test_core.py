@@ -155,6 +155,10 @@ class Order(CoreCase):
         self.assertEqual(self.refused(*self.two(first=[write(1, rel())], second=[check(1)])), [
             "two:1: events of several files (one, two) have no order: give each line the `sequence` of one sequencer, or a "
             "`time` and --skew MS"])
+        # Whatever file their lines say that they come from; these are read in full, or as a text over many lines.
+        said = [{**event, "file": "service", "line": 1} for event in (write(1, rel()), check(1))]
+        for given in self.two(first=said[:1], second=said[1:]), self.two(first=said[:1], second=said[1:])[:-1] + (self.put("two", json.dumps(said[1], indent=1)),):
+            self.assertIn("events of several files (", self.refused(*given)[0])
         self.assertEqual(self.refused(*self.two(first=[write(1, rel(), sequence=4)], second=[check(1, sequence=4)])),
                          ["two:1: sequence 4 stands at one:2 too"])
 

@@ -40,6 +40,13 @@ class Sums(unittest.TestCase):
         self.assertEqual((sum_.percent, sum_.status(4), sum_.status(5)), (5.0, 6, 0))
         self.assertEqual(sum_._replace(since=None).status(99), 6)
 
+    def test_a_gap_of_unknown_length_may_be_all_of_the_time_beside_others_too(self):
+        hour = 3_600_000_000_000
+        sum_ = Coverage(100, uncounted=1, dark=hour, since=0, until=100 * hour).plus(Coverage(uncounted=1, undated=1))
+        self.assertEqual((sum_.percent, sum_.status(99)), (100.0, 6))
+        self.assertEqual(of_row(sum_.row()), sum_)
+        self.assertIn("gaps in which nobody counted what was asked: 2, of unknown length 1", sum_.lines())
+
     def test_a_trace_says_its_sum_in_its_lines_and_its_last(self):
         part = b',"part":"%s"' % causes.VERSION_UNKNOWN.encode()
         lines = CHECK % b"" + CHECK % part + CHECK % b',"again":true'

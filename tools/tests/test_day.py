@@ -81,8 +81,9 @@ class Days(DayCase):
         self.assertEqual([(row["line"], row["finding"], row["effect"], row["file"], row["file_line"]) for row in rows[1:]], [
             (7, "F10", "wrong", "one", 6), (9, "F10", "wrong", "two", 2), (7, "F4", "changed", "one", 6), (9, "F2", "none", "two", 2)])
         self.assertEqual(rows[1]["named"], "doc:1#reader@user:anne")
-        self.assertEqual(json.loads(self.get("days/day000002/summary.json")), {
-            "logs": ["two"], "digest": json.loads(self.get("days/day000002/summary.json"))["digest"], "status": 1, "entries": 3, "findings": 4,
+        summary = json.loads(self.get("days/day000002/summary.json"))
+        self.assertEqual(summary, {
+            "logs": ["two"], "digest": summary["digest"], "left": summary["left"], "status": 1, "entries": 3, "findings": 4,
             "not_audited": 0, "held_over": 0, "verdict": "dirty", "coverage": {"checks": 3, "whole": 3},
             "looked": {"checks": 3, "with_version": 1, "with_token": 0, "with_unknown": 0}, "held_back": 0})
 
@@ -329,6 +330,19 @@ class Refused(DayCase):
         self.assertEqual([self.day(name, folder="others").returncode for name in ("other", "two")], [0, 1])
         self.put_state(2, self.files("others"), 2)
         self.refused("^day: the state of day 2 is not that of this folder: it stands for 2 windows, or goes on from another", "days", "events", "three")
+
+    def test_what_an_import_left_of_another_day(self):
+        """What was left out on the last day would be forgotten, and a right reply that hangs on it called wrong."""
+        self.put("two", [{"event": "unmapped", "reason": "tuple with a condition", "userset": ["doc", "9", "viewer"]}, check(2, goal=rel("1", "reader", "anne"))])
+        self.put("three", [check(2, True, rel("9", "viewer", "bob")), check(2, goal=rel("1", "reader", "anne")), write(13)])
+        self.assertEqual(self.day("two").returncode, 0)
+        right = self.files("days")["day000002/left"]
+        self.put("days/day000002/left", self.before["day000001/left"])
+        self.before = self.files("days")
+        self.refused("^day: days/day000002/left is another than day 2 left", "days", "events", "three")
+        self.put("days/day000002/left", right)
+        run = self.day("three")
+        self.assertEqual((run.returncode, run.stdout.count("not audited 1: ")), (6, 1))
 
     def test_usage(self):
         for words in (["days"], ["days", "events"], ["days", "events", "--trace", "x", "two"], ["days", "events", "--go-on=x", "two"],

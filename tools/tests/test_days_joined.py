@@ -210,6 +210,9 @@ class Folders(DayCase):
         for name in ("report.txt", "mail.txt"):
             self.assertRegex(self.get("days/day000001/" + name), "held back 1: these checks of closed files are audited when all logs have come as far; "
                              "right ends at [^;]*Z\nwhere right has ended for good, say --ended right\n")
+        for form in ("text", "html", "sarif", "junit", "annotations"):
+            self.assertIn("held back 1: ", self.run_tool("report", "--form", form, "days/day000001").stdout, form)
+        self.assertIn("held back 1: ", self.get("days/day000001/report.html"))
         summary = json.loads(self.get("days/day000001/summary.json"))
         self.assertEqual((summary["logs"], summary["held_back"]), (["left", "right"], 1))
         self.assertNotIn("joined_log", os.listdir(self.path("days/day000001")))

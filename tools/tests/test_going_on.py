@@ -117,6 +117,31 @@ class GoingOn(CoreCase):
         for number in range(5):
             self.assertIn("F1 stale", self.compare(log, Random("newest %d" % number), "events", "log"))
 
+    def test_a_version_whose_content_check_finds_no_state_is_left_out_with_it(self):
+        """Checks that name it, also on later days, are audited in part. They are no F6, since it was issued."""
+        doc = rel("1", "viewer", "anne")
+        self.put("log", [RULES, write(0, base=True), write(5), between(content(9, "v", goal=doc), 5, 9, True),
+                         check(5, False, doc, version="v", token=5)])
+        said = self.imported("events", "log", "--go-on", "left", "--trace", "one", "--ids", "ids")
+        self.assertIn("not audited 1: %s\n" % causes.STATE_TO_COME, said)
+        self.assertIn("audited in part 1: %s" % causes.VERSION_LEFT_OUT, said)
+        self.assertEqual(self.report("one").splitlines()[-1], "verdict clean")
+        self.assertEqual(read_left(self.path("left")).issued, [])
+        self.put("log", [write(10), check(10, False, doc, version="v", token=10)])
+        said = self.imported("events", "log", "--go-on", "left", "--trace", "two", "--ids", "ids")
+        self.assertIn("audited in part 1: %s" % causes.VERSION_LEFT_OUT, said)
+
+    def test_a_version_whose_content_check_may_have_seen_too_many_states_is_left_out_with_it(self):
+        doc = rel("1", "viewer", "anne")
+        log = [RULES, write(0, base=True), *(write(one) for one in range(1, 5)), write(5, doc),
+               between(content(5, "v", goal=doc), 0, 5, True), check(5, True, doc, version="v", token=5)]
+        self.put("log", log)
+        with mock.patch.object(core, "STATES", 3):
+            said = self.imported("events", "log", "--trace", "one", "--ids", "ids")
+        self.assertIn("not audited 1: %s\n" % causes.TOO_WIDE, said)
+        self.assertIn("audited in part 1: %s" % causes.VERSION_LEFT_OUT, said)
+        self.assertEqual(self.report("one").splitlines()[-1], "verdict clean")
+
     def test_rules_that_go_on_from_tuples_of_before(self):
         """These stand in the trace without what such a rule reads, so a right reply would be called wrong."""
         self.put("log", [UNREAD, write(0, base=True), write(1, rel("2"), rel("1", "parent", "2", "doc"))])

@@ -5,11 +5,13 @@ import os
 import re
 import shutil
 import subprocess
+import xml.etree.ElementTree
 from random import Random
 from unittest import mock
 
 from tests.random_windows import RandomHistory
 from tests.support import Case
+from tests.test_core import check, rel, write
 from tests.test_day import LOG, NEXT, WORDS
 
 HISTORIES = 12
@@ -95,6 +97,67 @@ class Told(KeptCase):
         return re.search("(?m)^line ([0-9]+): F10", self.get("days/day%06d/report.txt" % number))[1]
 
 
+class Waiting(KeptCase):
+    """A check that a day leaves to a later one, or does not audit, passes in no form of its report."""
+
+    def test_a_check_that_is_held_over_is_told_in_each_form_and_passes_in_none(self):
+        self.two_days("--html")
+        said = "held over 1: the replies of these checks are judged with the day whose writes come to their snapshots"
+        for form in ("text", "jsonl", "sarif", "junit", "annotations", "html"):
+            told = self.run_tool("report", "--form", form, "days/day000001").stdout
+            self.assertIn('"held_over":1' if form == "jsonl" else said, told, form)
+            self.assertNotIn("held over" if form != "jsonl" else "held_over", self.run_tool("report", "--form", form, "days/day000002").stdout)
+        self.assertIn(said, self.get("days/day000001/report.html"))
+        self.assertEqual(self.cases(1), {4: None, 5: None, 7: "not judged with this day"})
+
+    def test_a_check_that_is_not_audited_does_not_pass(self):
+        self.two_days()
+        self.put("three", [check(12, goal=rel("2", "viewer", "carla")), check(1, goal=rel("1", "reader", "anne")), write(13, rel("4", "viewer", "bob"))])
+        told = self.day("--keep-snapshots", "0", "days", "events", "three", status=(6,)).stdout
+        line = int(re.search("line ([0-9]+): not audited", told)[1])
+        self.assertEqual({one: why for one, why in self.cases(3).items() if one >= line - 1}, {line - 1: None, line: "not judged with this day"})
+
+    def cases(self, number):
+        """Of each line of a day that has a test why it is skipped, if it is; the counts of the suite are those of its tests."""
+        suite = xml.etree.ElementTree.fromstring(self.run_tool("report", "--form", "junit", "days/day%06d" % number).stdout)[0]
+        found = [(one.get("name"), [skipped.get("message") for skipped in one.iter("skipped")]) for one in suite.iter("testcase")]
+        self.assertEqual((suite.get("tests"), suite.get("skipped")), (str(len(found)), str(sum(len(skipped) for _, skipped in found))))
+        return {int(name.split()[1][:-1]): skipped[0] if skipped else None for name, skipped in found if name.startswith("line ")}
+
+
+class Index(KeptCase):
+    """The page of all days lacks none that was kept, whenever a run is broken off."""
+
+    def listed(self):
+        return re.findall('<tr><td>(?:<a [^>]*>)?([0-9]+)', self.get("days/index.html"))
+
+    def test_a_day_whose_run_was_broken_off_before_the_index(self):
+        self.put("one", LOG)
+        self.put("two", NEXT)
+        self.day("--html", "days", "events", "--from-empty", "one")
+        os.remove(self.path("days/index.html"))
+        os.mkdir(self.path("days/index.html"))
+        self.day("--html", "days", "events", "--from-empty", "two", status=(5,))
+        os.rmdir(self.path("days/index.html"))
+        self.assertIn("was broken off", self.day("--html", "days", "events", "--from-empty", "two", status=(1,)).stderr)
+        self.assertEqual(self.listed(), ["2", "1"])
+
+    def test_a_run_that_was_killed_while_it_wrote_the_index(self):
+        self.put("one", LOG)
+        self.put("two", NEXT)
+        self.day("--html", "days", "events", "--from-empty", "one")
+        self.put("days/index.html.part", "half of it")
+        self.day("--html", "days", "events", "--from-empty", "two", status=(1,))
+        self.assertEqual(self.listed(), ["2", "1"])
+
+    def test_a_day_without_a_page_stands_in_an_index_that_is_there(self):
+        self.put("one", LOG)
+        self.put("two", NEXT)
+        self.day("--html", "days", "events", "--from-empty", "one")
+        self.day("days", "events", "--from-empty", "two", status=(1,))
+        self.assertEqual(self.listed(), ["2", "1"])
+
+
 class Refused(KeptCase):
     def test_words(self):
         self.two_days()
@@ -160,6 +223,11 @@ class TakenAway(KeptCase):
         self.assertNotIn("day000002/report.html", self.get("days/index.html"))
         self.put("four", [{"event": "check", "goal": ["doc", "9", "viewer", "user", "eve"], "snapshot": 20, "reply": True}])
         self.day("days", "events", "four")
+        # A day that is still to be told stays.
+        os.remove(self.path("days/day000004/told"))
+        self.assertEqual(self.run_tool("forget", "--keep-days", "0", "days").returncode, 0)
+        self.assertIn("verdict", self.get("days/day000004/mail.txt"))
+        self.assertEqual(self.day("days", "events", "four").returncode, 0)
         # A log of a day whose files are gone is known all the same.
         self.assertEqual(self.run_tool("day", *WORDS, "days", "events", "one").returncode, 8)
 

@@ -674,6 +674,25 @@ class Metrics(Hooked):
         self.assertEqual(self.asked(port, "/health")[0], 503)
         self.stop(one)
 
+    def test_loss_with_which_a_day_ends(self):
+        """A recorder that was away at midnight tells of it behind the day's last reply, and at once goes on with those of the next day."""
+        gap = {"event": "gap", "from": "2026-11-26T10:00:00Z", "to": "2026-11-26T10:00:01Z", "reason": "it was full", "lost": 3}
+        self.put_log(files_of([*timed([RULES, BASE, PLACE, write(5, rel()), check(5), gap]), *timed([check(5)], NEXT)], []))
+        self.ends(self.monitor("--once"))
+        self.assertEqual([(row["kind"], row["state"], row["value"]) for row in self.told()], [("loss", "passed", 75.0), ("loss", "ended", 0.0)])
+
+    def test_loss_is_not_over_where_nothing_was_asked_since(self):
+        gap = {"event": "gap", "from": "2026-11-26T10:00:00Z", "to": "2026-11-26T10:00:01Z", "reason": "it was full", "lost": 3}
+        events = timed([RULES, BASE, PLACE, write(5, rel()), check(5), gap], "2026-11-26")
+        self.put_log([files_of(events, [])[0].rpartition(b'{"event":"closed"')[0]])
+        port = free_port()
+        one = self.monitor("--metrics", "127.0.0.1:%d" % port)
+        # The day of the check is over.
+        self.wait_for(lambda: self.numbers(port).get("run") == 2, lambda: self.get("monitor.err"))
+        self.assertEqual(self.numbers(port)['bound_passed{bound="loss"}'], 1)
+        self.stop(one)
+        self.assertEqual([(row["kind"], row["state"]) for row in self.told()], [("loss", "passed")])
+
     def test_lag(self):
         """A check above all commits waits for one, and is told to wait, also in the run behind it."""
         events, day = [RULES, BASE, PLACE, write(5, rel()), check(7)], "2026-11-26"

@@ -6,6 +6,7 @@ from random import Random
 
 from new_enemy_tools import keys
 from new_enemy_tools.importing import times, zedtokens
+from new_enemy_tools.importing.located import Source
 from tests.support import EXAMPLES, Case
 
 STRANGE = [None, True, 0, -1, 1.5, "", "x", "a:b", "a:b#c", "*", [], [[]], {}, {"a": 1}, [None], {"token": []}]
@@ -45,6 +46,18 @@ class Kept(unittest.TestCase):
             self.assertIsNotNone(found)
             self.assertEqual([read("%s%d" % ("x" * (1 << 16), number)) for number in range(9)], [None] * 9)
             self.assertEqual((read(short), kept.cache_info().currsize), (found, 1))
+
+
+class CutShort(Case):
+    def test_a_log_that_is_cut_short_while_it_is_read_is_refused_wherever_its_lines_end(self):
+        """As by `copytruncate` of logrotate. Of these lines the reader has no half when the first block ends."""
+        line = b'{"x":"%s"}\n' % (b"a" * (8192 - 9))
+        path = self.put("log", line * 400)
+        blocks = Source(path).placed()
+        next(blocks)
+        os.truncate(path, 0)
+        with self.assertRaisesRegex(OSError, "cut short while it was read"):
+            list(blocks)
 
 
 class StrangeInput(Case):

@@ -55,6 +55,16 @@ class Rows(Unaudited):
         summary = self.summary(1)
         self.assertEqual((summary["status"], summary["verdict"], summary["coverage"]["lost"]), (6, "incomplete", {"the recorder did not follow": 40}))
 
+    def test_a_gap_of_which_nobody_knows_the_length_is_below_no_percent(self):
+        """A recorder that was killed may not know since when, and a clock that was put back may end a gap before it begins."""
+        known = {"event": "gap", "from": "2026-11-26T00:00:01Z", "to": "2026-11-26T00:00:02Z", "reason": "the recorder did not follow"}
+        first, last = ({**check(1), "time": "2026-11-26T%s:00:00Z" % hour} for hour in ("00", "23"))
+        odd = {"event": "gap", "to": "2026-11-26T12:00:00Z", "reason": "the recorder was killed"}
+        for gap, status in ((known, 0), (odd, 6), ({**odd, "from": "2026-11-26T13:00:00Z"}, 6)):
+            self.put("log", [RULES, write(1, rel()), first, known, gap, last])
+            run = self.run_tool("import", "events", "--from-empty", "--allow-unaudited", "1", "log")
+            self.assertEqual(run.returncode, status, (gap, run.stderr))
+
     def test_a_day_whose_checks_all_were_lost_is_refused_by_its_least_count_and_else_incomplete(self):
         self.put("log", [RULES, write(1, rel()), LOST])
         self.assertEqual(self.day().returncode, 2)
@@ -81,6 +91,20 @@ class Rows(Unaudited):
         self.imported("events", "--from-empty", "log")
         self.audit("--form", "html", "--out", "page.html")
         self.assertIn('<span class="verdict empty">empty: nothing was audited</span>', self.get("page.html"))
+
+    def test_a_finding_that_does_not_fail_or_is_not_told_hides_no_loss_from_a_pipeline(self):
+        log = [RULES, write(1, rel()), write(2, rel("2")), content(1, "v", token=1)]
+        for more, status in (([LOST], 6), ([], 0)):
+            self.put("log", [*log, *more])
+            self.imported("events", "--from-empty", "log")
+            run = self.audit()
+            self.assertEqual((run.returncode, run.stdout.count('"effect":"none"')), (0, 1))
+            self.put("known", run.stdout)
+            self.put("ignore", [{"finding": "F3", "reason": "it is known", "until": "2099-12-31"}])
+            for words in (["--fail-on", "possible"], ["--baseline", "known"], ["--ignore", "ignore"], ["--baseline", "known", "--fail-on", "none"]):
+                self.assertEqual(self.audit(*words).returncode, status, (words, more))
+            self.assertEqual(self.audit("--fail-on", "none").returncode, 1)
+            self.assertEqual(self.audit("--fail-on", "possible", "--allow-unaudited", "99").returncode, 0)
 
     def test_every_form_says_what_was_lost(self):
         self.put("log", [RULES, write(1, rel()), check(1), LOST])

@@ -144,6 +144,8 @@ def go_on(days: Days, given: Namespace) -> import_logs.Before:
         shutil.copyfile(ids, days.work("ids.jsonl"))
     if path is None and days.before("import.txt") is not None:
         raise WindowFault("the file `left` of day %d is not there, and without it nothing goes on from that day" % (days.last or 0))
+    if path is not None and days.last is not None and days.summary(days.last).left not in ("", digest_of([path])):
+        raise WindowFault("%s is another than day %d left: it was altered, or is of another day" % (path, days.last))
     table = Ids(days.work("ids.jsonl"))
     left = None if path is None else cut(read_left(path), state.base, given.keep_versions, carrying(state, table, given.keep_versions))
     return import_logs.Before(left, state, table)
@@ -210,6 +212,7 @@ def made(days: Days, given: Namespace, digest: str, progress: Progress) -> int:
 def kept(days: Days, given: Namespace, own: Own, found: Audited, ids: Optional[Ids], digest: str) -> int:
     """Makes a day of what was found, in the folder that is worked in, where its carry is; its number."""
     write_beside(days.work(), found.new)
+    found = found._replace(report=found.report._replace(held_back=given.held_back))
     labels = labels_of(found.counted(own))
     write_reports(days, found, own, ids, labels, given.said)
     if given.html:
@@ -219,7 +222,8 @@ def kept(days: Days, given: Namespace, own: Own, found: Audited, ids: Optional[I
     report = found.report
     write_whole(days.work("summary.json"), [json.dumps(Summary(
         given.names, digest, report.status(given.allow_unaudited), report.entries, len(report.findings),
-        sum(report.coverage.not_audited.values()), report.held, report.verdict, report.coverage.row(), labels._asdict(), given.held_back)._asdict())])
+        sum(report.coverage.not_audited.values()), report.held, report.verdict, report.coverage.row(), labels._asdict(), given.held_back,
+        digest_of([days.work("left")]) if os.path.exists(days.work("left")) else "")._asdict())])
     if given.keep_days:
         keep_trace(days.work(), found, own)
     if os.path.exists(days.work("trace")):
@@ -227,10 +231,16 @@ def kept(days: Days, given: Namespace, own: Own, found: Audited, ids: Optional[I
     shutil.rmtree(days.work(JOINED_LOG), ignore_errors=True)
     number = days.keep()
     days.tidy(given.keep_days)
-    if given.html:
-        from new_enemy_tools.windowing.day_pages import index
-        write_whole(os.path.join(given.folder, INDEX), index(days))
+    write_index(days, given.html)
     return number
+
+
+def write_index(days: Days, is_wanted: bool) -> None:
+    """Writes the page of all days, where it is wanted or there already: it is to lack none that was kept."""
+    path = os.path.join(days.folder, INDEX)
+    if is_wanted or os.path.exists(path):
+        from new_enemy_tools.windowing.day_pages import index
+        write_whole(path, index(days))
 
 
 def write_reports(days: Days, found: Audited, own: Own, ids: Optional[Ids], labels: Labels, said: list[str]) -> None:
@@ -280,6 +290,7 @@ def taken(days: Days, given: Namespace, progress: Progress) -> int:
     leave_out(days, given)
     digest, last, status = digest_of(given.logs), days.last, 0
     if last is not None and not days.is_told(last):
+        write_index(days, given.html)
         sys.stderr.write("day: day %d was audited by a run that was broken off; its report:\n" % last)
         status = tell(days, last)
         if days.summary(last).digest == digest or not given.logs:

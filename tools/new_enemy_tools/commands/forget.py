@@ -6,10 +6,10 @@ summary.json, which has counts and the names of logs, and of the last two days w
 import os
 import sys
 
+from new_enemy_tools.commands.day import write_index
 from new_enemy_tools.commands.running import Parser
-from new_enemy_tools.files import write_whole
 from new_enemy_tools.shown import tell
-from new_enemy_tools.windowing.days import INDEX, Days
+from new_enemy_tools.windowing.days import Days
 from new_enemy_tools.windowing.window_faults import WindowFault
 
 
@@ -29,9 +29,7 @@ def main(words: list[str]) -> int:
         return 2
     try:
         days.forget(given.keep_days)
-        if os.path.exists(os.path.join(given.folder, INDEX)):
-            from new_enemy_tools.windowing.day_pages import index
-            write_whole(os.path.join(given.folder, INDEX), index(days))
+        write_index(days, False)
     finally:
         days.close()
     return 0

@@ -4,8 +4,8 @@ Each finding has its effect, whether it mattered; the sums come first, and then 
 --baseline FILE tells only what an earlier report, in JSON lines or SARIF, did not tell; --ignore FILE hides findings for a reason and
 until a day (docs/REPORTS.md). --form html writes a page, and of more than a thousand findings the others in files beside that of --out.
 
-The status is 0 where it was written, whatever was found; 1 by --fail-on; 6 where nothing was found, and not everything was looked at, as
-the sum says; 2 where a file is refused, and then nothing is written.
+The status is 0 where it was written, whatever was found; 1 by --fail-on; 6 where nothing is told, or nothing by which --fail-on fails, and
+not everything was looked at, as the sum says; 2 where a file is refused, and then nothing is written.
 """
 import argparse
 import sys
@@ -107,15 +107,17 @@ class Teller:
         out = left_out(given.ignore, given.baseline, ids is not None)
         step = self.progress.steps("looked at %s findings")
         if self.day is not None:
-            report, coverage, labels = self.day.report()
+            day = self.day.report()
             # The trace has content checks of the days before too.
-            told = told_of(trace, report._replace(entries=len(trace.entries)), step)
+            told = told_of(trace, day.report._replace(entries=len(trace.entries)), step)
+            telling = telling_of(told, trace, Names(ids), given.trace, day.report, day.labels, day.coverage, out)._replace(
+                held_over=day.held_over, held_back=day.held_back, unjudged=day.unjudged(trace))
         else:
             if self.report is None:
                 self.report = report_text(given.report)
-            report, coverage, labels = read_report(self.report), coverage_in(self.data), labels_in(self.data)
+            report = read_report(self.report)
             told = told_of(trace, report, step)
-        telling = telling_of(told, trace, Names(ids), given.trace, report, labels, coverage, out)
+            telling = telling_of(told, trace, Names(ids), given.trace, report, labels_in(self.data), coverage_in(self.data), out)
         return Rendered(telling, warnings_of(telling, out), [] if given.form == "html" else list(form_of(given.form)(telling)))
 
 
@@ -162,4 +164,6 @@ def main(words: list[str]) -> int:
         else:
             write(rendered.lines, given.out)
     worst = min((one.effect.rank for one in rendered.telling.told), default=len(EFFECTS))
-    return 1 if given.fail_on is not None and worst <= EFFECTS.index(given.fail_on) else rendered.telling.status(given.allow_unaudited)
+    if given.fail_on is not None and worst <= EFFECTS.index(given.fail_on):
+        return 1
+    return rendered.telling.status(given.allow_unaudited, given.fail_on is not None)

@@ -62,6 +62,7 @@ class Columns:
 
     def __init__(self, path: str):
         self.path, self.facts, self.rows = path, Facts(), 0
+        self.facts.path = path
         self.pairs: dict[tuple[bytes, bytes], int] = {}
         self.users: dict[tuple[bytes, bytes], int] = {}
         self.looks: list[Row] = []

@@ -226,7 +226,7 @@ class Core:
         facts = lines.facts
         is_in_order = facts.is_sequenced and facts.is_rising and facts.last_base < 0
         if self.skew is None and (is_in_order or not facts.is_sequenced) and not facts.has_newest:
-            if facts.last_base < 0 and (is_in_order or len(facts.files) < 2):
+            if facts.last_base < 0 and (is_in_order or len(facts.sources) < 2):
                 return lines.stream()
             return in_order(self._behind_base(lines.stream(facts.last_base), facts), facts, self.skew, self.refusals)
         stream = in_order(self._behind_base(lines, facts), facts, self.skew, self.refusals)
@@ -312,11 +312,15 @@ class Core:
         entry = Entry._make(row)
         cause = doubts.cause(Userset(*entry.goal[:3]), entry.snapshot if entry.lowest is None else entry.lowest, entry.snapshot)
         if cause is not None:
-            self.refusals.unmapped_check(entry, cause, entry.question)
-            if entry.kind == "content" and entry.version is not None:
-                self.taken.issued.pop((entry.goal[0], entry.goal[1], entry.version), None)
+            self._leave_out(entry, cause, entry.question)
             return None
         return row if entry.kind != "check" or entry.version is None else tuple(self.taken.known(entry, True))
+
+    def _leave_out(self, entry: Entry, cause: str, detail: str = "") -> None:
+        """Counts a check that is not audited; a version that it issued is not known with it."""
+        self.refusals.unmapped_check(entry, cause, detail)
+        if entry.kind == "content" and entry.version is not None:
+            self.taken.issued.pop((entry.goal[0], entry.goal[1], entry.version), None)
 
     def _chunks(self, shown: Shown, jobs: int) -> Iterator[bytes]:
         """The lines of the trace. Where none hangs on others, batches of them are made by many processes."""
@@ -379,6 +383,9 @@ class Core:
         place = self.commits_before
         waiting: dict[int, list[str]] = {}
         for row in rows:
+            if row[0] == "check" and row[8] is not None and self.refusals.versions:
+                # Its content check may have found no state meanwhile.
+                row = tuple(self.taken.known(Entry._make(row), True))
             if row[0] in CHECKS and row[9] is not None:
                 yield from self._between(Entry._make(row), place, shown, waiting)
                 continue
@@ -393,18 +400,18 @@ class Core:
         Where the newest state was asked for, the token is that state, and the entry waits until the trace has come to it.
         """
         if self.oldest is not None and entry.lowest is not None and entry.lowest < self.oldest:
-            self.refusals.unmapped_check(entry, causes.STATE_NOT_KEPT)
+            self._leave_out(entry, causes.STATE_NOT_KEPT)
             return
         assert entry.lowest is not None and entry.snapshot is not None
         count = self.taken.states.count(entry.lowest, entry.snapshot)
         if count >= STATES:
-            self.refusals.unmapped_check(entry, causes.TOO_WIDE, "%d commits, and %d states at most are looked at" % (count, STATES))
+            self._leave_out(entry, causes.TOO_WIDE, "%d commits, and %d states at most are looked at" % (count, STATES))
             return
         goal = Tuple(self.writer.named_set(*entry.goal[:3]), self.ids.number("user", *entry.goal[3:5]))
         asked = Asked(entry.kind, goal, entry.reply, entry.lowest, entry.snapshot, entry.token, entry.newest)
         chosen = self.taken.states.chosen(asked, place, self.goes_on is not None)
         if not chosen:
-            self.refusals.unmapped_check(entry, causes.STATE_TO_COME)
+            self._leave_out(entry, causes.STATE_TO_COME)
             return
         self.counts.take_entry(entry, entry.token is not None or entry.newest)
         first, *others = chosen

@@ -256,7 +256,9 @@ class Source:
         if not self.file.seekable() or isinstance(self.file, Unpacked):
             kept = tempfile.TemporaryFile()
             shutil.copyfileobj(self.file, kept)
+            kept.flush()
             self.file = kept
+        self.size = os.fstat(self.file.fileno()).st_size
 
     def blocks(self) -> Iterator[Block]:
         return (block for _, block in self.placed())
@@ -271,13 +273,18 @@ class Source:
             yield place, Block(first, _unmarked(place, data))
             first, start = first + data.count(b"\n"), start + len(data)
             self.file.seek(start)
+        if start < self.size:
+            raise self._cut_short()
 
     def block(self, place: Place) -> Block:
         """The block at a place, also for another process that has the file."""
         data = os.pread(self.file.fileno(), place.size, place.start)
         if len(data) < place.size:
-            raise OSError(errno.EIO, "the file was cut short while it was read", self.path)
+            raise self._cut_short()
         return Block(place.first, _unmarked(place, data))
+
+    def _cut_short(self) -> OSError:
+        return OSError(errno.EIO, "the file was cut short while it was read", self.path)
 
     def is_lines(self) -> bool:
         """Whether the file has a value on each line, by its first lines."""

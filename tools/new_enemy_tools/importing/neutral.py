@@ -72,7 +72,7 @@ class Events:
 
 def gather_events(path: str, lines: Lines, jobs: int, refusals: Refusals) -> Iterator[int]:
     """Adds the events of a log; how many there are, now and then."""
-    source = located.Source(path)
+    source, lines.facts.path = located.Source(path), path
     if not source.is_lines():
         for line in read_events(source.values(refusals), path, refusals):
             lines.add(line)

@@ -39,10 +39,11 @@ def in_order(lines: Iterable[Line], facts: Facts, skew: Optional[int], refusals:
         return _apart(sorted_lines(_timed(lines, refusals), _time), skew * MILLISECOND, refusals)
     if facts.is_sequenced:
         return _once(sorted_lines(lines, _sequence), refusals)
-    if len(facts.files) > 1 and not facts.is_chained:
-        second = list(facts.files)[1]
-        refusals.refuse(second, facts.files[second], "events of several files (%s) have no order: give each line the `sequence` "
-                        "of one sequencer, or a `time` and --skew MS" % ", ".join(facts.files))
+    files = facts.sources
+    if len(files) > 1 and not facts.is_chained:
+        second = list(files)[1]
+        refusals.refuse(second, files[second], "events of several files (%s) have no order: give each line the `sequence` "
+                        "of one sequencer, or a `time` and --skew MS" % ", ".join(files))
     return lines
 
 

@@ -39,5 +39,5 @@ class Ahead:
         is_known = self.reading.gap_since is None and not self.reading.versions and not self.reading.has_lost_version
         is_known &= not facts.is_sequenced or facts.is_rising
         is_known &= next(facts.numbers.holes(), None) is None
-        return is_known and not any(getattr(facts, name) for name in LATE) and facts.last_base < 0 and len(facts.files) < 2 and (
+        return is_known and not any(getattr(facts, name) for name in LATE) and facts.last_base < 0 and len(facts.sources) < 2 and (
             len(self.lines.rules) == self._rules)

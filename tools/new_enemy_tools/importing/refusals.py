@@ -42,8 +42,8 @@ class Refusals:
         self.not_audited: Counter[str] = Counter()
         self.firsts: dict[str, str] = {}
         self.lost: Counter[str] = Counter()
-        # gaps in which nobody counted, and how long they were
-        self.uncounted = self.dark = 0
+        # gaps in which nobody counted, how long they were, and of how many that is not known
+        self.uncounted = self.dark = self.undated = 0
         # checks of other stores, as the recorder counted them
         self.elsewhere = 0
         # files of a log that are not closed, and the number of the last file of a chain
@@ -91,6 +91,7 @@ class Refusals:
         self.lost.update(other.lost)
         self.uncounted += other.uncounted
         self.dark += other.dark
+        self.undated += other.undated
         self.elsewhere += other.elsewhere
         self.has_lost_version |= other.has_lost_version
         for kind, text in other.notes.items():
@@ -171,11 +172,13 @@ class Refusals:
         else:
             self.uncounted += 1
             self.dark += length or 0
+            self.undated += not length
 
     def coverage(self, checks: int, in_part: Counter[str], since: Optional[int], until: Optional[int]) -> Coverage:
         """The sum of an import, by the checks of its trace, those in part, and the times of the first and the last check."""
         return Coverage(checks, counted(in_part), counted(self.not_audited), counted(self.lost), self.uncounted,
-                        self.dark, since, until, self.open, self.last_file, OTHER_RULES if self.has_other_rules else None, self.elsewhere)
+                        self.dark, since, until, self.open, self.last_file, OTHER_RULES if self.has_other_rules else None, self.elsewhere,
+                        self.undated)
 
     def told(self) -> Iterator[str]:
         """How the input is read, what was passed over and left out, and what is not audited."""

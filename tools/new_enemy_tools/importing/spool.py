@@ -90,7 +90,11 @@ class Facts:
         # the last sequence and time of the base state, where it has one
         self.base_sequence: Optional[tuple[int, int]] = None
         self.base_time: Optional[int] = None
+        # of the files that lines say they come from the first line of each whose place matters, and of those that they are read from
         self.files: dict[str, int] = {}
+        self.paths: dict[str, int] = {}
+        # that which lines are read from, where it may be another than they say
+        self.path = ""
         self.is_sequenced = True
         # the first sequence and the last, and whether all lines but the first rules have one, each a greater one than the line before
         self.sequences: Optional[tuple[tuple[int, int], tuple[int, int]]] = None
@@ -120,7 +124,13 @@ class Facts:
                 return
         if line.file not in self.files:
             self.files[line.file] = line.line
+        self.paths.setdefault(self.path or line.file, line.line)
         self.is_sequenced &= line.sequence is not None
+
+    @property
+    def sources(self) -> dict[str, int]:
+        """The files between whose lines order is not known: they may be of one file that says it has them of several, or the other way round."""
+        return max(self.files, self.paths, key=len)
 
     def _note_base(self, sequence: Optional[tuple[int, int]], time: Optional[int]) -> None:
         self.base_sequence = max(filter(None, (self.base_sequence, sequence)), default=None)
@@ -150,6 +160,7 @@ class Facts:
     def note_checks(self, file: str, first: int, has_all: bool = False) -> None:
         """Lines of a file, of which the first is told, and whether all have a sequence, which is noted of each."""
         self.files.setdefault(file, first)
+        self.paths.setdefault(file, first)
         self.is_sequenced &= has_all
         self.is_rising &= has_all
 
@@ -159,8 +170,8 @@ class Facts:
             self.last_base, self.base_source = self.count + other.last_base, other.base_source
             self._note_base(other.base_sequence, other.base_time)
         self.count += other.count
-        for file, line in other.files.items():
-            self.files.setdefault(file, line)
+        for known, more in ((self.files, other.files), (self.paths, other.paths)):
+            known.update((file, line) for file, line in more.items() if file not in known)
         self.is_sequenced &= other.is_sequenced
         self.numbers.merge(other.numbers)
         self.is_rising &= other.is_rising and (self.sequences is None or other.sequences is None or self.sequences[1] < other.sequences[0])
@@ -245,7 +256,7 @@ class Lines:
     def add_packed(self, packed: Packed) -> None:
         """Adds a block whose revisions were placed."""
         facts, index = Facts(), packed.head
-        facts.files[index.file] = index.first
+        facts.files[index.file] = facts.paths[index.file] = index.first
         facts.has_groups = bool(index.plain)
         facts.is_sequenced = facts.is_rising = False
         for _, *_, row in index.odd:

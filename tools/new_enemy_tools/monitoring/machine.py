@@ -10,6 +10,7 @@ from queue import Empty, SimpleQueue
 from threading import Thread
 from typing import Any, Iterable, NamedTuple, Optional
 
+from new_enemy_tools.commands.day import write_index
 from new_enemy_tools.faults import DeviceFault
 from new_enemy_tools.monitoring.core import BeginAnew, Core, EndRun, Feed, Keep, Out, Settings
 from new_enemy_tools.monitoring.exposition import Before, exposition
@@ -85,7 +86,9 @@ class Machine:
     # Runs
 
     def begin(self) -> None:
-        """Begins the first run of this monitor."""
+        """Begins the first run of this monitor; the one before may have been killed when it had kept a day."""
+        if self.days.last is not None:
+            write_index(self.days, self.way.options.html)
         self._begin(None)
 
     def _begin(self, holding: Optional[Holding], stop: Optional[tuple[str, int]] = None) -> None:
@@ -119,6 +122,7 @@ class Machine:
                 return
             raise MonitorFault("the program refuses the trace: %s" % self.follower.fault())
         self._do(self.core.tell(now, True))
+        self._do(self.core.look_at_loss())
         self.journal.sync()
         line = self.core.holding.lines[0] if self.core.holding.lines else None
         place = self.tail.here() if line is None else self.tail.place_at(line.file, line.number)

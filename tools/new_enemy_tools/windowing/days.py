@@ -55,6 +55,8 @@ class Summary(NamedTuple):
     looked: dict[str, int] = {}
     # how many checks of joined logs wait for what another log has not closed yet
     held_back: int = 0
+    # the checksum of what its import left
+    left: str = ""
 
 
 class Days:
@@ -63,7 +65,8 @@ class Days:
     def __init__(self, folder: str):
         self.folder = folder
         os.makedirs(folder, exist_ok=True)
-        others = [name for name in os.listdir(folder) if name not in ("lock", WORK, INDEX) and not DAY.fullmatch(name)]
+        # A run that was killed may have left half of an index.
+        others = [name for name in os.listdir(folder) if name not in ("lock", WORK, INDEX, INDEX + ".part") and not DAY.fullmatch(name)]
         if others or os.path.exists(self.work()) and not os.path.exists(os.path.join(folder, "lock")):
             raise WindowFault("%s has %s, and is no folder of days: give one that is empty or not there" % (folder, (others or [WORK])[0]))
         # A lock of this kind goes with its process, and not with those that it began.
@@ -133,8 +136,9 @@ class Days:
                     os.remove(self.path(number, name))
 
     def forget(self, count: int) -> None:
-        """Takes away what names users of all but the last so many days, and what was asked; what the next day goes on from stays."""
-        for number in self.numbers[:max(0, len(self.numbers) - count)]:
+        """Takes away what names users of all but the last so many days, and what was asked; what the next day goes on from stays, and a day that
+        is still to be told."""
+        for number in filter(self.is_told, self.numbers[:max(0, len(self.numbers) - count)]):
             folder = os.path.dirname(self.path(number, "summary.json"))
             for name in os.listdir(folder):
                 if name not in STAYS and name not in GOING_ON:

@@ -2,6 +2,7 @@
 it says which line of the log each is."""
 import json
 import os
+import re
 from itertools import chain
 from typing import NamedTuple, Optional
 
@@ -18,6 +19,7 @@ from new_enemy_tools.windowing.days import TRACES
 from new_enemy_tools.windowing.own_lines import Own
 
 TRACE, NUMBERS = "trace", TRACES[-1]
+NOT_AUDITED = re.compile("line ([0-9]+): not audited, ")
 
 
 class NotKept(ToolFault):
@@ -38,6 +40,16 @@ class DayReport(NamedTuple):
     report: Report
     coverage: Coverage
     labels: Labels
+    # how many checks are left to later days, and the lines of those that were not audited
+    held_over: int
+    held_back: int
+    not_audited: frozenset[int]
+
+    def unjudged(self, trace: Trace) -> frozenset[int]:
+        """The lines of its trace whose entries were not judged with it: no commit of the trace has come to their snapshots, or they are told
+        not to be audited."""
+        last = trace.commits.ats[-1] if trace.commits else -1
+        return self.not_audited | {line for line, entry in trace.entries.items() if entry.snapshot > last}
 
 
 class KeptDay:
@@ -83,7 +95,9 @@ class KeptDay:
             verdict = str(summary["verdict"])
             if len(findings) != summary["findings"]:
                 raise ValueError
-            return DayReport(Report(findings, int(summary["entries"]), verdict), of_row(summary["coverage"]), Labels(**summary["looked"]))
+            return DayReport(Report(findings, int(summary["entries"]), verdict), of_row(summary["coverage"]), Labels(**summary["looked"]),
+                             int(summary["held_over"]), int(summary["held_back"]),
+                             frozenset(int(found[1]) for found in map(NOT_AUDITED.match, lines) if found))
         except (OSError, ValueError, KeyError, TypeError):
             raise NotKept("%s has not the report and the summary of a day, as this version writes them" % self.folder) from None
 

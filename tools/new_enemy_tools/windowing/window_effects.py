@@ -88,7 +88,7 @@ def _telling(trace: Trace, found: Audited, own: Own, ids: Optional[Ids]) -> Tell
     told = found.report
     report = Report(told.findings, len(trace.entries), told.verdict)
     telling = telling_of(told_of(trace, report), trace, Names(ids), own.path, report, labels_of(found.counted(own)), told.coverage)
-    return telling._replace(report=report._replace(entries=told.entries))
+    return telling._replace(report=report._replace(entries=told.entries), held_over=told.held, held_back=told.held_back)
 
 
 def _texts(trace: Trace, found: Audited, own: Own, ids: Optional[Ids]) -> Texts:

@@ -27,6 +27,8 @@ class WindowReport(NamedTuple):
     is_handed_on: bool = True
     # what of the log was looked at
     coverage: Coverage = Coverage()
+    # of joined logs how many checks wait for other logs
+    held_back: int = 0
 
     def covered(self, said: Coverage) -> "WindowReport":
         """With the sum of what was looked at, by what the lines of the window say."""
