@@ -1,11 +1,10 @@
 -- The end of a run that hands on.
-use Rattle.std.proofs.Common.{is_some, ◌≡◌, inl, inr, ℕ, ◌+◌, List, [], ◌++◌, length, take, Option, Result, Ok, Err, refl, sym, ◌∙◌, ap, subst, append_assoc, append-nil, ◌≤◌, arith}
+use Rattle.std.proofs.Common.{is_some, ◌≡◌, inl, inr, ℕ, ◌+◌, List, [], ◌++◌, length, take, Result, Ok, Err, refl, sym, ◌∙◌, ap, subst, append_assoc, append-nil, ◌≤◌, arith}
 use Rattle.std.proofs.Math.Seq.{take-append_seam, take-append-add}
 use Rattle.std.specs.Prelude.{IfSome, string_bytes}
 use Rattle.json_lines.specs.Reading.{line_count}
 use Rattle.userset_index.specs.Index.{IndexValue}
 use Rattle.trace_lines.specs.Values.{TraceValue, next_line}
-use Rattle.evidence_check.specs.Steps.{StepValue}
 use Rattle.findings.specs.declared.finding.Finding.{Finding}
 use Rattle.follow_laws.specs.Told.{told_between}
 use Rattle.follow_laws.proofs.OnceLemmas.{own_line}

@@ -171,7 +171,7 @@ fn first_store(trace: &Trace, declared: &[DeclaredLine]) -> Option<u64> {
 
 /// A carry, where its base is not below another one.
 fn from_base<'a>(base: u64, carry: Option<Carry<'a>>) -> Option<Carry<'a>>
-    ensures { IfSome result (λ c. (carry ≡ Some c) × (base ≤ c.base)) }
+    ensures { IfSome result (λ c. (carry.entry ≡ Some c) × (base ≤ c.base)) }
 {
     let carry = carry?;
     if carry.base < base {
