@@ -1,41 +1,33 @@
 -- The runs of a log as its parts.
-use Rattle.std.proofs.Common.{◌≡◌, ℕ, zero, suc, ◌+◌, ◌-◌, ◌<◌, ◌≤◌, ◌⊎◌, ◌||◌, ◌&&◌, max, inl, inr, Bool, true, false, cond, eqb, ltb, leb, List, [], ◌∷◌, ◌++◌, length, map, drop, Option, Some, None, Result, Ok, Err, refl, sym, ◌∙◌, ap, subst, arith, length-append}
-use Rattle.std.specs.Prelude.{All, filter, slice_get, option_map, is_some, string_bytes, IfSome}
-use Rattle.std.specs.List.{AllByRecursion, list_any}
+use Rattle.std.proofs.Common.{◌≡◌, ℕ, zero, suc, ◌+◌, ◌-◌, ◌<◌, ◌≤◌, ◌⊎◌, max, inl, inr, Bool, true, false, cond, eqb, ltb, leb, List, [], ◌∷◌, ◌++◌, length, drop, Option, Some, None, Result, Ok, Err, refl, sym, ◌∙◌, ap, subst, arith}
+use Rattle.std.specs.Prelude.{filter, slice_get, option_map, string_bytes, IfSome}
+use Rattle.std.specs.List.{AllByRecursion}
 use Rattle.std.specs.declared.alloc.Global.{Global}
 use Rattle.std.specs.Prelude.{String}
-use Rattle.std.proofs.lemmas.Bool.{and_parts, cases_lt, eqb-true, le-leb, leb-true, lt-leb, ltb-false, ltb-true}
-use Rattle.std.proofs.lemmas.List.Elements.{All-nil, recursion_from_All}
-use Rattle.std.proofs.lemmas.List.Folds.{list_any-append}
-use Rattle.std.proofs.lemmas.Option.{slice_get_within}
+use Rattle.std.proofs.lemmas.Bool.{and_parts, cases_lt, eqb-true, le-leb, lt-leb, ltb-false}
+use Rattle.std.proofs.lemmas.List.Elements.{recursion_from_All}
 use Rattle.refusals.specs.Refusals.{◌>>=◌}
 use Rattle.json_lines.specs.Reading.{line_count}
-use Rattle.version_chains.specs.Commits.{Commit}
-use Rattle.trace_lines.specs.Values.{EntryValue, TraceValue, empty_trace, next_line}
+use Rattle.trace_lines.specs.Values.{EntryValue, TraceValue, next_line}
 use Rattle.trace_lines.specs.declared.cause.TraceFault.{TraceFault}
 use Rattle.trace_lines.proofs.OfBytes.{IsSound, sound_empty}
-use Rattle.evidence_check.specs.Evidences.{steps_of}
-use Rattle.evidence_check.specs.Steps.{StepValue}
 use Rattle.findings.specs.declared.finding.Finding.{Finding}
-use Rattle.windows.specs.Compaction.{above}
-use Rattle.windows.specs.Growth.{GoesOn, HasRisingLines}
+use Rattle.windows.specs.Growth.{GoesOn}
 use Rattle.marks.proofs.PlacedLemmas.{slice_get-front}
-use Rattle.follow_laws.specs.Begun.{Begins, IsOfBytes}
-use Rattle.follow_laws.specs.Told.{settling_line, told_between}
+use Rattle.follow_laws.specs.Begun.{Begins}
+use Rattle.follow_laws.specs.Told.{told_between}
 use Rattle.follow_laws.proofs.FirstLemmas.{itself_law}
 use Rattle.follow_laws.proofs.ThroughLemmas.{first_entry}
 use Rattle.carry_laws.specs.Asked.{asked}
-use Rattle.carry_laws.specs.Carried.{GoesOnAlike, StandsIn, has_commit_at, placeless}
+use Rattle.carry_laws.specs.Carried.{GoesOnAlike, StandsIn}
 use Rattle.carry_laws.specs.Together.{AreParts, IsPart, Part}
 use Rattle.carry_laws.specs.Together as together
 use Rattle.carry_laws.proofs.HandedLemmas.{handed_on_law}
 use Rattle.carry_laws.proofs.OnwardLemmas.{onward}
 use Rattle.carry_laws.proofs.TogetherLemmas.{HaveSteps, steps_more}
 use Rattle.carry_laws.proofs.PartLemmas.{copied, line_within, same_snapshot}
-use Rattle.carry.specs.Opening.{carry_at}
 use Rattle.carry.specs.Values.{CarryValue}
 use Rattle.runs.specs.Begins as begins
-use Rattle.runs.specs.Handed.{IsCarryOf}
 use Rattle.runs.specs.Kept.{KeptValue, log_behind, nothing_kept}
 use Rattle.runs.proofs.AlikeLemmas.{come_alike}
 use Rattle.runs.proofs.KeptReadLemmas.{goes_behind}

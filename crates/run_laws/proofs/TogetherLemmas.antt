@@ -1,14 +1,13 @@
 -- What all runs of a log tell together.
-use Rattle.std.proofs.Common.{◌≡◌, ℕ, suc, ◌+◌, ◌<◌, ◌≤◌, ◌==◌, ◌&&◌, ◌||◌, ◌⊎◌, not, inl, inr, Bool, true, false, eqb, leb, List, [], ◌∷◌, ◌++◌, Option, Some, None, Ok, refl, sym, ◌∙◌, ap, subst, arith}
-use Rattle.std.specs.Prelude.{All, is_none, slice_get, filter, IsPermutation}
+use Rattle.std.proofs.Common.{◌≡◌, ℕ, suc, ◌+◌, ◌<◌, ◌≤◌, ◌==◌, ◌&&◌, ◌||◌, ◌⊎◌, not, inl, inr, Bool, true, false, eqb, leb, List, [], ◌∷◌, ◌++◌, Option, Some, Ok, refl, sym, ◌∙◌, ap, subst, arith}
+use Rattle.std.specs.Prelude.{All, is_none, slice_get, IsPermutation}
 use Rattle.std.specs.List.{AllByRecursion, list_all}
 use Rattle.std.proofs.Math.Bool.{or-true}
 use Rattle.std.proofs.lemmas.Bool.{cases_lt, eqb-true, le-leb}
-use Rattle.std.proofs.lemmas.List.Elements.{All-from_recursion, All-nil, recursion_from_All}
+use Rattle.std.proofs.lemmas.List.Elements.{All-from_recursion}
 use Rattle.std.proofs.lemmas.List.Sorted.{All-permutation}
 use Rattle.std.proofs.lemmas.Option.{get_or_from_slice_get, slice_get_within}
-use Rattle.version_chains.specs.Commits.{Commit}
-use Rattle.trace_lines.specs.Values.{EntryValue, TraceValue, empty_trace, next_line}
+use Rattle.trace_lines.specs.Values.{EntryValue, empty_trace, next_line}
 use Rattle.evidence_check.specs.Evidences.{steps_of}
 use Rattle.evidence_check.specs.Steps.{StepValue}
 use Rattle.findings.specs.EachEntry.{IsRightAndFreshEntry}
@@ -31,7 +30,7 @@ use Rattle.runs.proofs.SoundLemmas.{of_bytes}
 use Rattle.audit.specs.Audit.{verdict_of}
 use Rattle.audit.specs.declared.plain.Verdict.TheVariants.{Clean}
 use Rattle.run_laws.specs.Runs.{AreRuns, IsMadeIn, Ran, base_at, on_audited, told_by, told_in, whole_log}
-use Rattle.run_laws.proofs.PartsLemmas.{AreBegun, AreMade, IsBegun, IsLog, begins_all, nothing_first, parts_of}
+use Rattle.run_laws.proofs.PartsLemmas.{AreBegun, AreMade, IsLog, begins_all, nothing_first, parts_of}
 
 are_begun : (rs : List Ran) → AreRuns rs → AreBegun nothing_kept rs
 are_begun [] runs = tt
