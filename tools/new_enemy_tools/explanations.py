@@ -186,19 +186,19 @@ class Explainer:
             yield "The reply was right at no snapshot that was looked at."
         elif turn.is_after:
             yield "The latest snapshot at which the reply was right is %d; the commit after it:" % (turn.at - 1)
-            yield "  " + self._told_at(entry, turn.at)
+            yield "  " + self._commit_at_in_words(entry, turn.at)
         else:
             yield "The reply was right at no snapshot up to its own; it is right from %d on, by the commit" % turn.at
-            yield "  " + self._told_at(entry, turn.at)
+            yield "  " + self._commit_at_in_words(entry, turn.at)
 
     # Commits
 
-    def _told_at(self, entry: Entry, at: int) -> str:
+    def _commit_at_in_words(self, entry: Entry, at: int) -> str:
         commit = commit_at(self.trace, at)
         assert commit is not None
-        return self._told(commit, Reach(self.trace, entry.goal, Window(min(at - 1, entry.snapshot), max(at, entry.snapshot))))
+        return self._commit_in_words(commit, Reach(self.trace, entry.goal, Window(min(at - 1, entry.snapshot), max(at, entry.snapshot))))
 
-    def _told(self, commit: Commit, reach: Reach) -> str:
+    def _commit_in_words(self, commit: Commit, reach: Reach) -> str:
         if commit.changes is not None:
             return "%s: new rules of namespace %s" % (self._at(commit.at), commit.changes)
         touched = [("adds", one) for one in commit.add] + [("removes", one) for one in commit.remove]
@@ -224,7 +224,7 @@ class Explainer:
             for at in _first_of(listed, SHOWN):
                 commit = commit_at(self.trace, at)
                 assert commit is not None
-                yield "  %s, %s, %s" % (mark, self._where(entry, commit), self._told(commit, reach))
+                yield "  %s, %s, %s" % (mark, self._where(entry, commit), self._commit_in_words(commit, reach))
             if count > SHOWN:
                 yield "  %s: %d more" % (mark, count - SHOWN)
 

@@ -13,3 +13,15 @@ class DeviceFault(ToolFault):
     """A file or a program that cannot be used."""
 
     status = 5
+
+
+class WindowFault(ToolFault):
+    """Why there is no window, or no state behind it."""
+
+
+class MonitorFault(ToolFault):
+    """Why a monitor cannot go on."""
+
+
+class PartsFault(Exception):
+    """Why there are no parts, or no answer of all of them."""

@@ -5,10 +5,10 @@ from typing import Iterable, Optional
 
 from new_enemy_tools.faults import DeviceFault
 from new_enemy_tools.ids import Ids
-from new_enemy_tools.pieces import refuse_pieces
 from new_enemy_tools.progress import Progress
 from new_enemy_tools.trace import Trace, read_trace
 from new_enemy_tools.trace_lines import ids_in
+from new_enemy_tools.trace_pieces import refuse_pieces
 
 
 def read_bytes(path: str) -> bytes:

@@ -273,21 +273,21 @@ class Ids:
         row = self.rows[number - 1] if 1 <= number <= len(self.rows) else None
         return row if row and row[0] == kind else None
 
+    def _text_of(self, found: Optional[re.Match[str]], kind: str, text: str) -> str:
+        row = self._of(int(found[1]), kind) if found else None
+        return row[2] if row else text
+
     def user_of(self, number: int) -> str:
         """The user that a number stands for; the number itself where the table has none."""
         row = self._of(number, "user")
         return "%s:%s" % row[1:] if row else str(number)
 
     def name_of(self, kind: str, name: str) -> str:
-        found = NAME.fullmatch(name)
-        row = self._of(int(found[1]), kind) if found else None
-        return row[2] if row else name
+        return self._text_of(NAME.fullmatch(name), kind, name)
 
     def id_of(self, kind: str, text: str) -> str:
         """The object id (`object`) or label (`version`) that stands in the service for one in the trace."""
-        found = ID.fullmatch(text)
-        row = self._of(int(found[1]), kind) if found else None
-        return row[2] if row else text
+        return self._text_of(ID.fullmatch(text), kind, text)
 
     def userset_of(self, of: texts.Userset) -> str:
         relation = of.relation if of.relation == texts.NO_RELATION else self.name_of("relation", of.relation)

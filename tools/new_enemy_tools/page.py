@@ -7,17 +7,17 @@ import hashlib
 import os
 from typing import Callable, Iterator, NamedTuple, Optional
 
+from new_enemy_tools.audit_summary import Telling
 from new_enemy_tools.effects import EFFECTS, MEANT, RatedFinding
+from new_enemy_tools.finding_stories import Event, Story, Teller
 from new_enemy_tools.findings import FORMS
-from new_enemy_tools.forms import place_of
 from new_enemy_tools.groups import Group, listed
 from new_enemy_tools.importing.times import text_of_time
 from new_enemy_tools.labels import Labels
 from new_enemy_tools.meaning import Outgrown
 from new_enemy_tools.picture import drawn
+from new_enemy_tools.report_forms import place_of
 from new_enemy_tools.shown import markup
-from new_enemy_tools.stories import Event, Story, Teller
-from new_enemy_tools.telling import Telling
 
 PAGE = 1_000
 VERDICTS = {"clean": "clean", "dirty": "dirty", "incomplete": "incomplete: nothing was found, and not everything was looked at",

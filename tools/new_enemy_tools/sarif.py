@@ -2,12 +2,12 @@
 from typing import Iterator, Optional
 from urllib.parse import quote
 
+from new_enemy_tools.audit_summary import Telling
 from new_enemy_tools.baseline import FINGERPRINT
 from new_enemy_tools.effects import RatedFinding
 from new_enemy_tools.findings import FORMS
-from new_enemy_tools.forms import Place, Places, json_of, keyed_row_of, logged, place_of, places_in, sentence, sums_row
 from new_enemy_tools.ignoring import Row as Ignored
-from new_enemy_tools.telling import Telling
+from new_enemy_tools.report_forms import Place, Places, json_of, keyed_row_of, logged, place_of, places_in, sentence, sums_row
 
 SCHEMA = "https://json.schemastore.org/sarif-2.1.0.json"
 ABOUT = {

@@ -14,6 +14,11 @@ encode = json.JSONEncoder(ensure_ascii=False, separators=(",", ":")).encode
 STRING = re.compile(rb'"(?:[^"\\]|\\.)*"')
 
 
+def filled(found: dict[str, Any]) -> dict[str, Any]:
+    """An object without the keys that have no value."""
+    return {key: value for key, value in found.items() if value is not None}
+
+
 def is_u64(value: object) -> bool:
     return isinstance(value, int) and not isinstance(value, bool) and 0 <= value <= limits.NUMBER
 

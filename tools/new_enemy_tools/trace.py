@@ -2,10 +2,10 @@
 from typing import Callable, Iterable, Iterator, Optional, Union
 
 from new_enemy_tools import limits, strictjson, texts
-from new_enemy_tools.collecting import held_off
 from new_enemy_tools.edges import Edge, TupleEdges, first_broken, rule_edges
 from new_enemy_tools.entries import Commit, Commits, Entries, Entry
 from new_enemy_tools.faults import ToolFault
+from new_enemy_tools.garbage_collection import held_off
 from new_enemy_tools.quick_reach import Look
 from new_enemy_tools.rules import Rules, RulesFault
 from new_enemy_tools.store import Store

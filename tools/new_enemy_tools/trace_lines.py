@@ -344,7 +344,7 @@ IDS, STRATA = "ids", "strata"
 
 def mark_text(**said: object) -> str:
     """What an import adds to a line of a trace; an empty text where that is nothing."""
-    return strictjson.encode({key: value for key, value in said.items() if value is not None})[1:-1]
+    return strictjson.encode(strictjson.filled(said))[1:-1]
 
 
 def with_mark(line: bytes, mark: str) -> bytes:

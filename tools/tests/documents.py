@@ -20,6 +20,8 @@ PORT = re.compile(r"\b28\d\d\d\b")
 WAIT = 100
 # A time of day, which is another one each time.
 TIME = re.compile(r"\d{4}-\d\d-\d\dT[\d:.]+Z")
+# A line of a recorder's log: others of its lines, which are for itself, come sooner or later.
+LOG_LINE = re.compile(r"(\blog/\d{6}\.jsonl):\d+")
 
 
 def read(*names: str) -> str:
@@ -89,7 +91,7 @@ def behind_dollars(text: str) -> List[Tuple[str, List[str]]]:
 
 
 def without_times(lines: List[str]) -> List[str]:
-    return [TIME.sub("a time", line) for line in lines]
+    return [LOG_LINE.sub(r"\1:a line", TIME.sub("a time", line)) for line in lines]
 
 
 class Bash:

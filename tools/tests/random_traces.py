@@ -1,7 +1,7 @@
 """Random joined input with all ten findings, and input that is refused."""
 import json
 
-from new_enemy_tools.maker import record
+from new_enemy_tools.evidence_maker import record
 from new_enemy_tools.trace import Fault, read_trace
 
 THIS = {"this": {}}

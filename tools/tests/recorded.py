@@ -1,4 +1,5 @@
 """What the tests of the recorder share: stand-ins and recorders as processes, clients that ask, and what an audit finds of the log."""
+import glob
 import http.client
 import json
 import os
@@ -17,6 +18,19 @@ from tests.support import TOOLS, Case
 
 # So many seconds what is waited for may take: what holds sooner is seen at once, and on a machine with much other work all takes long.
 READY = 120
+
+
+def keeper_of(recorder):
+    """The process of the keeper that a recorder started."""
+    for path in glob.glob("/proc/[0-9]*/stat"):
+        try:
+            with open(path, encoding="utf-8") as file:
+                words = file.read().rpartition(")")[2].split()
+        except OSError:
+            continue
+        if int(words[1]) == recorder.pid and words[0] != "Z":
+            return int(path.split("/")[2])
+    return None
 
 
 class Client:

@@ -215,25 +215,22 @@ class OfDays(Verdict):
             yield "checks are left when all have ended"
 
 
-def run_crowd(seed, count=None, **values):
-    """The faults of one run with several recorders, whose logs are joined."""
-    world = Crowd(seed, count or Random(seed).choice((2, 2, 3)))
+def _run(world, said_of, values):
     for name, value in {"shows": True, **values}.items():
         setattr(world.shape, name, value)
-    return world, OfCrowd(world.run())
+    return world, said_of(world.run())
+
+
+def run_crowd(seed, count=None, **values):
+    """The faults of one run with several recorders, whose logs are joined."""
+    return _run(Crowd(seed, count or Random(seed).choice((2, 2, 3))), OfCrowd, values)
 
 
 def run_days(seed, **values):
     """The faults of one run with several recorders, whose logs are joined day by day."""
-    world = Daily(seed, Random(seed).choice((1, 2, 2, 3)))
-    for name, value in {"shows": True, **values}.items():
-        setattr(world.shape, name, value)
-    return world, OfDays(world.run())
+    return _run(Daily(seed, Random(seed).choice((1, 2, 2, 3))), OfDays, values)
 
 
 def run_live(seed, **values):
     """The faults of one run with several recorders, whose logs are joined while they grow."""
-    world = Live(seed, Random(seed).choice((1, 2, 2, 3)))
-    for name, value in {"shows": True, **values}.items():
-        setattr(world.shape, name, value)
-    return world, OfDays(world.run())
+    return _run(Live(seed, Random(seed).choice((1, 2, 2, 3))), OfDays, values)

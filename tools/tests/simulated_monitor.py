@@ -13,13 +13,13 @@ from collections import Counter
 
 from new_enemy_tools.ids import Ids
 from new_enemy_tools.meaning import Settled
-from new_enemy_tools.monitoring.core import BeginAnew, Core, EndRun, Feed, Keep, Settings
+from new_enemy_tools.monitoring.alerts import Known
 from new_enemy_tools.monitoring.delivery import Send
 from new_enemy_tools.monitoring.holding import Holding
+from new_enemy_tools.monitoring.pure_monitor import BeginAnew, Core, EndRun, Feed, Keep, Settings
 from new_enemy_tools.monitoring.run import Begun, Run
 from new_enemy_tools.monitoring.stream import Chunk
 from new_enemy_tools.token_order import order_findings
-from new_enemy_tools.monitoring.alerts import Known
 from new_enemy_tools.trace import read_lines
 from new_enemy_tools.windowing import beginning
 from new_enemy_tools.windowing.audited_window import state_behind, window_of

@@ -99,6 +99,8 @@ class Write(Thing):
     def __init__(self, world, taken):
         super().__init__()
         self.all, self.taken, self.asked, self.committed = world, taken, world.now, None
+        # whether a keeper's log has that it was answered
+        self.is_noted = False
 
     def answered(self):
         self.all.writes[self.all.now] = self
@@ -142,6 +144,8 @@ class Kept(Keeper):
         super().__init__(settings, service, openfga_feed.OpenFgaFeed(settings, Source(world)), Pipe(world, self))
         self.world, self.inbox = world, deque()
         self.is_open = self.is_busy = False
+        # writes of which it has heard, and its log has nothing yet
+        self.heard = []
         # as of a world; `read` is what was known from the readings
         self.known, self.read, self.since, self.whole, self.first, self.last_began = [], [], {}, set(), None, 0
 
@@ -163,6 +167,7 @@ class Kept(Keeper):
             self._note(message)
             self._take([message], 0)
             self._write()
+            self._has_noted(message)
         self.is_busy = False
         if self.core.is_over and self.gone_at is None:
             self.core.end_asked(self.world._at())
@@ -191,6 +196,15 @@ class Kept(Keeper):
         if thing is not None and self.core.is_ready and thing.began >= self.first:
             self.known.append((message.clock, thing.committed))
             self.whole.add(thing.committed)
+
+    def _has_noted(self, message):
+        """The log has all that the keeper has heard of, when it has begun."""
+        thing = self.world.writes.get(message.clock) if isinstance(message, Ended) else None
+        self.heard += [thing] if thing is not None else []
+        if self.core.is_ready:
+            for thing in self.heard:
+                thing.is_noted = True
+            self.heard = []
 
     def is_done(self):
         return self.gone_at is not None and (not self.core.is_waiting() or self.world.now / 1e9 > self.gone_at + LAST * STEP / 1e9)
@@ -250,7 +264,7 @@ class Whole(World):
         self.often_bare = self.more.choice((0, 0, 0.1)) if has_troubles else 0
         self.wires, self.transports, self.soon, self.found = [], [], [], []
         # the proxies that run, the last of which gets all new clients; the keeper that has the folder, and those that wait for it
-        self.proxies, self.kept, self.nexts = [], None, deque()
+        self.proxies, self.kept, self.nexts, self.keepers = [], None, deque(), []
         self.is_full = self.is_starved = self.tears = self.is_ending = self.has_lost_keeper = self.is_left_open = self.is_held_up = False
         self.pipe = PIPE if has_troubles else 1 << 20
         # how many changes the service gives at most, and how often it gives none although there are some
@@ -258,6 +272,21 @@ class Whole(World):
         self.cap, self.often_empty = self.empties.choice((1000, 1000, 1, 3)), self.empties.choice((0, 0, 0.2))
         # when the recorder refused a connection, or did not serve one; and writes by when they had their answers
         self.refused, self.writes = [], {}
+        # the writes that pass the recorder; and how often the feed never shows one, or whether it is late and nobody said so
+        self.ours, self.hidings, self.often_hidden = [], Random("hidden %d" % seed), 0
+        if has_troubles and shape.ours == 1 and self.hidings.random() < 0.6:
+            self._hide()
+
+    def in_doubt(self):
+        return super().in_doubt() | {tuple(key[0]) for made in self.core.service.made for key in made.keys if key is not None}
+
+    def _hide(self):
+        """Nothing but the writes that pass the recorder, of which it hears, tells what the feed does not show."""
+        self.often_hidden = self.hidings.choice((0, 0.1, 0.4))
+        if self.hidings.random() < 0.5:
+            self.shape.told_horizon, self.service.horizon = 0, 15 * STEP
+            self.shape.horizon = self.service.horizon
+        self.often, self.often_bare, self.most = dict.fromkeys(self.often, 0), 0, 100
 
     # The devices around the recorder
 
@@ -284,6 +313,10 @@ class Whole(World):
             self._schedule()
             while self.kept or self.nexts or not self.is_ending:
                 self._live()
+        for kept in self.keepers:
+            # So much less well is known what a learnt horizon leaves open.
+            learnt = max(0, kept.core.service.horizon - self.shape.horizon)
+            kept.since = {at: since - learnt for at, since in kept.since.items()}
         return self
 
     def _schedule(self):
@@ -403,7 +436,7 @@ class Whole(World):
         kept = Kept(self, proxy.word.path, proxy.word.start if proxy.starts else None)
         proxy.starts += 1
         self.nexts.append(kept)
-        proxy.teller.end = kept.end
+        proxy.teller.begin(kept.end)
 
     def _live(self):
         """The life of a keeper."""
@@ -411,6 +444,7 @@ class Whole(World):
             self.advance(STEP)
         kept, self.is_left_open = self.nexts.popleft(), False
         self.kept = kept
+        self.keepers.append(kept)
         self.core, self.found = kept.core, []
         while self.is_starved:
             self.advance(STEP)
@@ -456,12 +490,13 @@ class Whole(World):
                 proxy.word.leave(self.wall())
                 proxy.teller.forget()
                 proxy.again_at = self.now + AGAIN * STEP
+        self._reveal()
 
     def _beat(self):
         self.own(2, 2, self._beat)
         for proxy in self.proxies:
             proxy.teller.catch_up()
-            if proxy.teller.size > ROOM + BODY // 2:
+            if proxy.teller.size > ROOM + BODY // 2 + proxy.teller.writes.size:
                 self.faulty.append("more waits for the keeper than there is room for")
             if proxy.again_at is not None and self.now > proxy.again_at:
                 self._start_keeper(proxy)
@@ -485,6 +520,7 @@ class Whole(World):
     def _hold_up(self):
         """The keeper gets no processor for a while; behind that, or before, its proxy may be killed."""
         self.is_held_up = True
+        self._reveal(True)
         self.later(2, 60, lambda: setattr(self, "is_held_up", False))
         if self.moments.random() < 0.5:
             self.later(2, 60, self._kill_proxy)
@@ -500,6 +536,7 @@ class Whole(World):
 
     def _fill(self):
         self.is_full = True
+        self._reveal(True)
         self.later(2, 60, lambda: setattr(self, "is_full", False))
 
     def _starve(self):
@@ -532,6 +569,7 @@ class Whole(World):
             if proxy.teller.end is not None:
                 proxy.teller.end.close()
             self.has_lost_keeper |= proxy.teller.end is None
+            self._reveal()
             self._start_again()
 
     def _start_again(self):
@@ -570,8 +608,29 @@ class Whole(World):
             teller.flush()
             if teller.end is not None:
                 teller.end.close()
+        self._reveal()
         if not self.is_ending:
             self._start_again()
+
+    def _show_unheard(self, at, thing):
+        """The feed shows a commit as it should of which no keeper with the folder is soon to hear."""
+        kept = self.kept
+        hears = thing is not None and kept is not None and kept.core.is_ready and thing.wire.proxy.teller.end is kept.end
+        if not hears or self.is_held_up or self.is_full:
+            self._reveal_one(at)
+        else:
+            # So long an answer takes at most; nobody has one that never comes.
+            self.own(20, 20, lambda: thing.is_noted or self._reveal_one(at))
+
+    def _reveal(self, any_proxy=False):
+        """Of a write whose proxy is gone, and that no log has, nobody can know but by the feed, which shows it then as it should."""
+        for thing in self.ours:
+            if not thing.is_noted and thing.committed is not None and (any_proxy or thing.wire.proxy not in self.proxies):
+                self._reveal_one(thing.committed)
+
+    def _reveal_one(self, at):
+        self.service.hidden.discard(at)
+        self.service.prompt.add(at)
 
     # What the feed reads
 
@@ -634,12 +693,22 @@ class Whole(World):
             part = "deletes" if given in self.service.states[-1] else "writes"
             body.setdefault(part, {"tuple_keys": []})["tuple_keys"].append(key_of(given))
         data = message(self.random, b"POST /stores/S/write HTTP/1.1", [b"Host: x"], json.dumps(body).encode())
-        wire.send(data, [(Write(self, taken), len(data), lambda thing: self._place_write(thing, thing.taken, thing.asked, True))])
+        self.ours.append(Write(self, taken))
+        wire.send(data, [(self.ours[-1], len(data), lambda thing: self._place_write(thing, thing.taken, thing.asked, True))])
         if self._is("strange"):
             self.later(0, 5, self._check_on, wire)
 
+    def _commit_write(self, number, changes, asked, is_ours, place, stamped):
+        at = self.now
+        super()._commit_write(number, changes, asked, is_ours, place, stamped)
+        if is_ours:
+            number.committed = at
+            if self.hidings.random() < self.often_hidden:
+                self.service.hidden.add(at)
+        if self.service.horizon > self.shape.told_horizon or at in self.service.hidden:
+            self._show_unheard(at, number if is_ours else None)
+
     def _answer_write(self, thing, changes, asked, committed):
-        thing.committed = committed
         self._reply(thing, b"{}")
 
     def _check(self):
@@ -765,10 +834,18 @@ class OfWhole(Verdict):
             yield "a client was refused, and no gap says so"
         feed, later = (Counter((tuple(one for one in row[2] if one is not None), row[3]) for row in world.service.feed if row[4] > since)
                        for since in (-1 << 60, world.based))
-        if self.rows and (self.written - feed or later - self.written and not world.is_left_open):
+        later.subtract((tuple(one for one in row[2] if one is not None), row[3]) for row in world.service.feed
+                       if row[4] > world.based and row[4] in world.service.hidden)
+        if self.rows and (self.written - feed or +later - self.written and not world.is_left_open):
             yield "a change stands not in the log, or twice"
         if not world.has_troubles and len(self.entries) + self.lost + self.elsewhere != len(answered):
             yield "%d checks were answered, and %d stand in the log and %d are counted" % (len(answered), len(self.entries), self.lost + self.elsewhere)
+
+    def _saw_unanswered(self, one):
+        world = self.world
+        answered = {thing.committed: at for at, thing in world.writes.items()}
+        return world.service.horizon > world.shape.told_horizon and any(
+            at <= one.ended < answered.get(at, 1 << 62) for at in world.service.times if at > one.began - 40 * STEP)
 
     def _of_lines(self, answered):
         for time, (row, _) in self.entries.items():

@@ -5,16 +5,21 @@ Time and what happens next are drawn as for OpenFGA (`simulation.py`). Each repl
 what each entry of a log has to say of it: the findings of the log are those of the truth, no more and no fewer, or the check is counted.
 """
 import json
+import os
+import tempfile
 from random import Random
 from unittest import mock
 
+from new_enemy_tools.importing.times import nanoseconds
+from new_enemy_tools.recording import log_files
 from new_enemy_tools.recording.core import Core
 from new_enemy_tools.recording.lines import time_text
 from new_enemy_tools.recording.joining import Join
-from new_enemy_tools.recording.messages import Beat, Ended, Started
+from new_enemy_tools.recording.messages import Beat, Ended, Lost, Started, Writes
 from new_enemy_tools.recording.own_events import own_of
 from new_enemy_tools.recording.sketches import Given, Row
-from new_enemy_tools.recording.spicedb import Feed, SpiceDb, Watched
+from new_enemy_tools.recording.spicedb import Feed, SpiceDb, Watched, revision_of
+from tests.simulated_network import Clock
 from tests.simulation import GOALS, OPEN, STEP, TUPLES, WALL, Asked, Shape, World, given_of, holds
 from tests.stand_in_spicedb import FIRST, Numbers, Snapshots, relationship_of
 from tests.stand_in_spicedb import STEP as NEXT
@@ -105,7 +110,7 @@ class Tokens(World):
 
     def watch(self, token):
         """What came behind a token. A stream that is opened again may give what came before."""
-        after = max(self.base, self.place(token) - self.random.choice((0, 0, 1)))
+        after = max(self.base, self.place(token) - self._again(token))
         head = max(after, self.service.index(max(0, self.now - self.lag)))
         for place in range(after + 1, head + 1):
             changes = self.service.changes[self.service.times[place]]
@@ -117,6 +122,10 @@ class Tokens(World):
             # A number stands between those of the commits.
             token = self.token(after) if isinstance(self.tokens, Snapshots) else self.tokens.token_of(FIRST + after * NEXT + NEXT // 2)
             yield {"updates": [], "changesThrough": token, "isCheckpoint": True}
+
+    def _again(self, token):
+        """How many of the changes up to a token come again."""
+        return self.random.choice((0, 0, 1))
 
     def _begin_feed(self):
         self._begin_store()
@@ -233,6 +242,132 @@ class Apart(Tokens):
         return self
 
 
+class Killed(Tokens):
+    """The keeper is killed at any moment, and another goes on in its folder, which the proxy tells what it could not tell; the schema stays."""
+
+    def __init__(self, seed, shape, folder):
+        super().__init__(seed, shape)
+        self.folder, self.log, self.kills = folder, None, Random("kills %d" % seed)
+        # what the proxy remembers, and what it could tell nobody; and when each keeper began, with the newest commit of its log
+        self.writes, self.untold, self.begun = Writes(), [], []
+        # the commits of writes that passed; and answers of checks that no keeper had seen begin
+        self.written, self.unheard = set(), set()
+
+    def run(self):
+        clock = Clock(self, None)
+        with mock.patch.object(log_files, "time", clock), mock.patch.object(log_files, "LATER", 20 * STEP / 1e9):
+            for _ in range(self.kills.choice((1, 1, 2))):
+                self.later(5, self.shape.length, self._kill)
+            super().run()
+            self.log.close()
+            os.close(self.log._lock)
+        paths = [os.path.join(self.folder, name) for name in sorted(os.listdir(self.folder)) if name.endswith(".jsonl")]
+        self.lines = []
+        for path in paths:
+            with open(path, "rb") as file:
+                self.lines.append(file.read())
+        return self
+
+    def _open(self):
+        self.log = log_files.LogFiles(self.folder, "spicedb", 1 << 20, 3600.0, self.shape.hold / 1e9)
+        self.log.lock()
+        self.core.left, self.core.is_first = self.log.recover(), self.log.is_first
+
+    def _begin_feed(self):
+        self._begin_store()
+        self.base = self.head
+        self._go_on()
+
+    def _go_on(self):
+        self._open()
+        self.feed = Feed(self)
+        self.core.take(self.feed._base(self.core.left), self._at())
+        self._drain()
+        last = max(json.loads(line)["revision"] for _, line in self._lines() if b'"event":"write"' in line)
+        numbers = not isinstance(self.tokens, Snapshots)
+        self.begun.append((self.now, (last // DECIMALS - FIRST) // NEXT if numbers else self.base + last))
+        self.own(1, 3, self._read_of, self.feed)
+
+    def _again(self, token):
+        """A snapshot of PostgreSQL that names no transaction does not say which one was the last."""
+        again = super()._again(token)
+        revision = revision_of(token)
+        return again if revision.snapshot is None or revision.snapshot.own is not None else 0
+
+    def _lines(self):
+        for name in sorted(os.listdir(self.folder)):
+            if name.endswith(".jsonl"):
+                with open(os.path.join(self.folder, name), "rb") as file:
+                    yield from ((name, line) for line in file)
+
+    def _read_of(self, feed):
+        if feed is self.feed:
+            self._read()
+
+    def _read(self):
+        feed = self.feed
+        for watched, read_at in feed._watched():
+            for one in feed._sure(watched, read_at):
+                self._tell("feed", one)
+        if self._has_more():
+            self.own(1, 1 + self.shape.poll, self._read_of, feed)
+
+    def _drain(self):
+        data = self.core.drained()
+        if data:
+            self.log.until = self.core.until() if self.core.is_ready else None
+            self.log.add(data, True)
+            self.log.place = self.core.place
+
+    def _kill(self):
+        if self.log is None or self.feed is None:
+            return
+        os.close(self.log._lock)
+        os.close(self.log.descriptor)
+        self.feed, self.core = None, Core(SpiceDb(), self.shape.hold / 1e9)
+        self.later(2, 30, self._start_again)
+
+    def _start_again(self):
+        if self.untold:
+            self.core.take(Lost(WALL + self.untold[0], WALL + self.now, len(self.untold), "the keeper of the log was gone"), self._at())
+        for message in self.writes.kept:
+            self.core.take(message, self._at())
+        self.untold = []
+        self._go_on()
+
+    def _beat(self):
+        if self.feed is not None:
+            super()._beat()
+        else:
+            self.own(5, 5, self._beat)
+
+    def _tell(self, way, message):
+        if isinstance(message, Ended):
+            self.writes.keep(message)
+        if self.feed is None:
+            self.untold += [self.now] if way == "proxy" else []
+        else:
+            super()._tell(way, message)
+
+    def known_at(self, at, is_sure):
+        """What keepers before had from answers of checks goes with them; what their logs have stays, and so do writes."""
+        if not is_sure:
+            return super().known_at(at, is_sure)
+        began, logged = max((one for one in self.begun if one[0] <= at), default=(0, self.base))
+        shown = [place for told, place, is_change in self.known if not is_change and told <= at and (
+            place in self.written or told >= began and (told, place) not in self.unheard)]
+        return max([*shown, logged])
+
+    def _answer_write(self, number, asked, place):
+        self.written.add(place)
+        super()._answer_write(number, asked, place)
+
+    def _answer(self, asked):
+        super()._answer(asked)
+        if self.feed is None or asked.began < self.begun[-1][0]:
+            self.unheard.add((self.now, asked.at))
+
+
 def relation_of(given):
     return relationship_of(("%s:%s" % given[:2], given[2], "%s:%s" % given[3:5], given[5] or ""))
 
@@ -329,6 +464,34 @@ class Verdict:
             yield "content that is not of the latest state" if one.save else "a stale answer"
         if one.shows is not None and self.entries[time_text(WALL + one.ended)][0]["of"] is not None and one.kind == ANY:
             yield "an old token"
+
+
+class OfKilled(Verdict):
+    """Where a keeper is killed, what has no line has to be in a gap."""
+
+    def faults(self):
+        spans = [(nanoseconds(row.get("from")) or 0, nanoseconds(row["to"]) or 0) for row in map(json.loads, b"".join(
+            self.world.lines).splitlines()) if row["event"] == "gap"]
+        found, self.lost = [], 1
+        if self.commits != sorted(set(self.commits)):
+            found.append("the commits come twice, or have another order than the service's")
+        for one in self.answered:
+            entry = self.entries.get(time_text(WALL + one.ended))
+            if entry is not None:
+                found += ["%s (check %d)" % (fault, one.number) for fault in self._of_check(one, *entry)]
+            elif not any(start - 1000 <= WALL + one.ended and WALL + one.began <= end + 1000 for start, end in spans):
+                found.append("a check is neither in the log nor in a gap (check %d)" % one.number)
+        return found
+
+
+def run_killed(seed, shape=None):
+    """The faults of one run whose keeper is killed."""
+    shape = shape or Shape(Random("shape %d" % seed))
+    shape.horizon = shape.stale = 0
+    with tempfile.TemporaryDirectory(dir="/dev/shm" if os.path.isdir("/dev/shm") else None) as folder:
+        world = Killed(seed, shape, folder)
+        world.run()
+        return world, OfKilled(world)
 
 
 def _tuple(given):

@@ -89,6 +89,8 @@ class Service:
         self.horizon = horizon
         self.times, self.states = [-10], [frozenset()]
         self.feed, self.changes = [], {}
+        # when those commits came that the feed never shows, and those that it shows at once, whatever the horizon
+        self.hidden, self.prompt = set(), set()
         self.places = count(1)
         self.busy = set()
         # when each model came, but for the first
@@ -124,8 +126,11 @@ class Service:
 
     def page(self, now, cursor, size):
         """The changes behind a place that are shown at a time, at most so many, and the place of the last one."""
-        shown = [one for one in self.feed if one[:2] > cursor and one[4] <= now and one[5] + self.horizon <= now][:size]
+        shown = [one for one in self.feed if one[:2] > cursor and one[4] <= now and self._is_shown(one, now)][:size]
         return shown, shown[-1][:2] if shown else cursor
+
+    def _is_shown(self, one, now):
+        return one[4] not in self.hidden and (one[4] in self.prompt or one[5] + self.horizon <= now)
 
 
 class Asked:
@@ -208,7 +213,7 @@ class World:
         heapq.heappush(self.events, (at, next(self.order), work, given))
 
     def run(self):
-        shape, random = self.shape, self.random
+        shape = self.shape
         self._begin_feed()
         for _ in range(shape.requests):
             self.later(3, shape.length, self._request)
@@ -563,10 +568,14 @@ class Verdict:
         stale = 0 if one.newest or one.save else self.world.shape.stale
         first, last = service.index(max(0, one.began - stale)), service.index(one.ended)
         was_right = any(holds(service.states[at], one.goal) == one.reply for at in range(first, last + 1))
-        if was_right and not is_passed and not one.is_planted:
+        if was_right and not is_passed and not one.is_planted and not self._saw_unanswered(one):
             yield "a right reply is called wrong (check %d)" % one.number
         if is_passed and not self._may_be(one, one.began - stale):
             yield "a wrong reply is called right (check %d)" % one.number
+
+    def _saw_unanswered(self, one):
+        """Whether a check may have seen by an early look what is shown late, and nobody said so."""
+        return False
 
     def _of_version(self, one, row, high):
         """What the log says of a check that shows a version: that is known, unless it may be lost, and no older state was demanded."""

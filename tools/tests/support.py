@@ -12,10 +12,10 @@ from typing import NamedTuple
 from unittest import mock
 
 from new_enemy_tools.commands import ne
+from new_enemy_tools.evidence_maker import record
 from new_enemy_tools.importing.refusals import HINT, Refusals
-from new_enemy_tools.maker import record
-from hostile.loading import loaded_file
 from new_enemy_tools.trace import read_trace
+from hostile.loading import loaded_file
 
 TOOLS = os.path.dirname(os.path.dirname(os.path.abspath(__file__)))
 NE = os.path.join(TOOLS, "ne")

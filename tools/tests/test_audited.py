@@ -5,11 +5,11 @@ from random import Random
 from typing import Iterator
 from unittest import mock
 
-from new_enemy_tools.audited import read_audited
+from new_enemy_tools.audit_summary import told_of
+from new_enemy_tools.audited_trace import read_audited
 from new_enemy_tools.commands import report as command
 from new_enemy_tools.effects import RatedFinding
 from new_enemy_tools.findings import read_report
-from new_enemy_tools.telling import told_of
 from new_enemy_tools.token_order import order_lines
 from new_enemy_tools.trace import Trace, read_trace
 from new_enemy_tools.trace_lines import OtherForm

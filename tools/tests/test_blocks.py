@@ -7,8 +7,8 @@ from unittest import mock
 
 from new_enemy_tools.importing import causes, located, spool
 from tests import openfga_service
-from tests.test_core import RULES, CoreCase, check, content, rel, write
 from tests.test_round_trips import OpenFga, SpiceDb
+from tests.test_trace_maker import RULES, CoreCase, check, content, rel, write
 
 PIECES = ['{', '}', '[', ']', ':', ',', '"a"', '"b"', '"a":1', '"b":"x"', '"\\u0041"', '"\\ud800"', '"a" :2', ' ', '1.0', '1e5', '-0',
           '12345678901234567890', '123456789012345678901234567890', 'NaN', 'true', 'null', '"é"', '"\\""', '\t', '"a:b"', '{}']

@@ -3,8 +3,8 @@ import unittest
 
 from new_enemy_tools.coverage import Coverage, coverage_in, mark_of, of_row
 from new_enemy_tools.importing import causes
+from new_enemy_tools.importing.import_summary import Counts
 from new_enemy_tools.importing.times import nanoseconds
-from new_enemy_tools.importing.writing import Counts
 
 CHECK = b'{"kind":"check","goal":"doc:a#viewer@1","snapshot":1,"reply":true%s}\n'
 

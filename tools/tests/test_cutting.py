@@ -1,6 +1,5 @@
 """How lines are placed, and what is refused of parts, of their reports and of what the tool is given."""
 import io
-import json
 import os
 import re
 import signal

@@ -15,8 +15,8 @@ from random import Random
 from new_enemy_tools.importing import causes
 from tests.documents import Shown, read
 from tests.support import EXAMPLES, NE, TOP, Case
-from tests.test_core import check, content, rel, write
 from tests.test_going_on import RULES, between, chained, events_of
+from tests.test_trace_maker import check, content, rel, write
 from tests.test_windows import Told
 
 KILLS = int(os.environ.get("KILLS", "20"))

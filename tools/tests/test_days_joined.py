@@ -11,6 +11,7 @@ from new_enemy_tools.recording.sketches import Given, JoinFault, Row
 from tests.simulated_crowd import run_days
 from tests import test_joining
 from tests.recorded import Client
+from tests.simulated_case import SimulatedCase
 from tests.support import Case
 from tests.test_day import WORDS, DayCase
 from tests.test_joining import change, check, events, lines
@@ -20,35 +21,25 @@ SEEDS = 300
 SPANS = DayJoin._spans
 
 
-class Simulated(Case):
+class Simulated(SimulatedCase):
     """Recorders whose logs are joined at some times, each with some of its lines closed."""
 
+    RUN = run_days
+
     def test_no_right_reply_is_accused_and_no_wrong_one_passes(self):
-        recorded = lost = waited = days = 0
-        for seed in range(SEEDS):
-            world, verdict = run_days(seed)
-            self.assertEqual(verdict.faults(), [], "seed %d" % seed)
-            recorded, lost = recorded + len(verdict.entries), lost + verdict.lost
+        waited = days = 0
+        for world, _ in self.held(range(SEEDS)):
             waited += sum(one.checks for _, one in world.days)
             days += sum(any(row["event"] == "check" for row in rows) for rows, _ in world.days)
-        self.assertGreater(recorded, 2 * lost)
+        self.assertGreater(self.recorded, 2 * self.lost)
         self.assertGreater(waited, 50)
         self.assertGreater(days, 1.2 * SEEDS)
 
     def test_a_model_that_changes(self):
-        for seed in range(100):
-            self.assertEqual(run_days(seed, models=True)[1].faults(), [], "seed %d" % seed)
-
-    def assert_finds(self, fault, **values):
-        """Some seed shows the fault."""
-        for seed in range(1000):
-            if any(one.startswith(fault) for one in run_days(seed, **values)[1].faults()):
-                return
-        self.fail(fault)
+        self.assert_holds(*range(100), models=True)
 
     def test_a_change_that_is_read_after_the_day_that_it_belongs_to(self):
-        _, verdict = run_days(11021240)
-        self.assertEqual(verdict.faults(), [])
+        self.assert_holds(11021240)
 
     def test_a_cut_that_parts_content_from_what_it_may_have_seen(self):
         with mock.patch.object(DayJoin, "_spans", lambda self, log: [(place, place) for place, _ in SPANS(self, log)]):

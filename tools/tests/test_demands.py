@@ -2,7 +2,7 @@
 import json
 import os
 
-from tests import test_core, test_openfga, test_postgres, test_spicedb
+from tests import test_openfga, test_postgres, test_spicedb, test_trace_maker
 from tests.support import Case
 from tests.test_round_trips import token_text
 
@@ -77,9 +77,9 @@ class Demands(Case):
         self.assert_demands(lambda *at: self.spicedb({"fullyConsistent": True}, *at, **kinds), lambda *at: self.spicedb({}, *at, **kinds))
 
     def events(self, *snapshots, **more):
-        writes = [test_core.write(at, test_core.rel(user=name)) for at, name in enumerate("abc", 1)]
-        checks = [test_core.check(at, version="v", **more) for at in snapshots]
-        self.put("log", [test_core.RULES, *writes[:2], test_core.content(2, "v", token=2), writes[2], *checks])
+        writes = [test_trace_maker.write(at, test_trace_maker.rel(user=name)) for at, name in enumerate("abc", 1)]
+        checks = [test_trace_maker.check(at, version="v", **more) for at in snapshots]
+        self.put("log", [test_trace_maker.RULES, *writes[:2], test_trace_maker.content(2, "v", token=2), writes[2], *checks])
         return self.findings("events", "--from-empty", "log")
 
     def test_own_events(self):

@@ -4,7 +4,7 @@ import re
 import signal
 import subprocess
 
-from hostile.answers import Answer
+from hostile.program_runs import Answer
 from tests.support import EXAMPLES, Case
 
 CLEAN = b"entries 1\nfindings 0\nverdict clean\n"

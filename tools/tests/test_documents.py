@@ -155,10 +155,9 @@ class Names(Case):
         self.assertEqual([law for law in laws if law not in said], [])
 
     def test_the_library_call(self):
-        shown = read("ARCHITECTURE.md").split("```\n")[1]
-        program = read("crates", "tests_of_devices", "src", "in_memory.rt")
-        for part in shown.split("\n\n"):
-            self.assertIn(part, program)
+        """The page names the program that shows it, which is proved and run with the tests of library calls."""
+        self.assertIn("`crates/tests_of_devices/src/in_memory.rt`", read("ARCHITECTURE.md"))
+        self.assertIn("fn audit_in_memory(", read("crates", "tests_of_devices", "src", "in_memory.rt"))
 
     def test_crates(self):
         listed = re.findall(r"^(\w+)", read("crates.txt"), re.MULTILINE)

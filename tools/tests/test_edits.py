@@ -1,12 +1,11 @@
 """What tools/dev/more_edits makes of edits and of what the prover says, with a stand-in of `rt`."""
 import glob
 import os
-import re
 import shutil
 import subprocess
 import sys
 
-from edits.texts import apply, edit_of, functions_of, groups_of
+from edits.edit_texts import apply, edit_of, functions_of, groups_of
 from edits.verdicts import PROVED, REFUSED, UNREAD, UNTOLD, verdicts
 from tests.support import DEV, TOP, Case
 

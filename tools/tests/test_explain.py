@@ -12,14 +12,14 @@ from unittest import mock
 
 from hostile.inputs import worked_cases
 from new_enemy_tools import limits
-from new_enemy_tools.answers import Answers
 from new_enemy_tools.evidence import check_evidence, records_of
 from new_enemy_tools.files import split_joined
+from new_enemy_tools.held_goals import Answers
 from new_enemy_tools.judging import judge
 from new_enemy_tools.meaning import Settled
-from new_enemy_tools.token_order import order_lines
 from new_enemy_tools.reasons import Reasons
 from new_enemy_tools.texts import Tuple
+from new_enemy_tools.token_order import order_lines
 from new_enemy_tools.trace import Fault, Trace, read_trace
 from tests.random_traces import RandomInput
 from tests.support import EXAMPLES, Case
@@ -335,7 +335,7 @@ class Ways(Case):
             seen = Counter()
             limits_of = mock.patch.multiple("new_enemy_tools.quick_reach", STEPS=steps, DEEP=deep)
             kept = mock.patch("new_enemy_tools.store.TOLD_APART", told_apart)
-            with limits_of, kept, mock.patch("new_enemy_tools.answers.Settled", wraps=Settled) as slow:
+            with limits_of, kept, mock.patch("new_enemy_tools.held_goals.Settled", wraps=Settled) as slow:
                 for number in range(RANDOM_TRACES):
                     trace, goals = Trace(), []
                     answers = Answers(trace.rules, trace.store)

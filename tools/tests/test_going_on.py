@@ -8,10 +8,10 @@ from collections import Counter
 from random import Random
 from unittest import mock
 
-from new_enemy_tools.importing import causes, core, going_on, located
+from new_enemy_tools.importing import causes, going_on, located, trace_maker
 from new_enemy_tools.importing.going_on import APART, GoingOnFault, Named, numbered, read_left
-from tests.test_core import CoreCase, check, content, rel, write
 from tests.test_round_trips import SpiceDb
+from tests.test_trace_maker import CoreCase, check, content, rel, write
 from tests.test_windows import Told
 
 RULES = {"event": "rules", "namespaces": [
@@ -136,7 +136,7 @@ class GoingOn(CoreCase):
         log = [RULES, write(0, base=True), *(write(one) for one in range(1, 5)), write(5, doc),
                between(content(5, "v", goal=doc), 0, 5, True), check(5, True, doc, version="v", token=5)]
         self.put("log", log)
-        with mock.patch.object(core, "STATES", 3):
+        with mock.patch.object(trace_maker, "STATES", 3):
             said = self.imported("events", "log", "--trace", "one", "--ids", "ids")
         self.assertIn("not audited 1: %s\n" % causes.TOO_WIDE, said)
         self.assertIn("audited in part 1: %s" % causes.VERSION_LEFT_OUT, said)
@@ -259,13 +259,13 @@ class TakenAhead(CoreCase):
         def noted(ahead, lines):
             stands.append(found(ahead, lines))
             return stands[-1]
-        found = core.Ahead.stands
+        found = trace_maker.Ahead.stands
         for jobs in (1, 4):
-            with mock.patch.object(core.Ahead, "stands", noted):
+            with mock.patch.object(trace_maker.Ahead, "stands", noted):
                 quick = self.outcome(log, jobs, *words)
-            with mock.patch.object(core.Ahead, "stands", lambda *_: False):
+            with mock.patch.object(trace_maker.Ahead, "stands", lambda *_: False):
                 self.assertEqual(self.outcome(log, jobs, *words), quick)
-            with mock.patch.object(core.Core, "_taken_ahead", lambda *_: None):
+            with mock.patch.object(trace_maker.Core, "_taken_ahead", lambda *_: None):
                 self.assertEqual(self.outcome(log, jobs, *words), quick)
         return quick[0], any(stands)
 

@@ -6,7 +6,7 @@ import xml.etree.ElementTree
 from unittest import mock
 
 from tests.support import Case
-from tests.test_core import RULES, check, content, rel, write
+from tests.test_trace_maker import RULES, check, content, rel, write
 
 PROGRAM = os.path.abspath(os.environ["NEW_ENEMY"])
 ASKED = 121

@@ -2,12 +2,12 @@
 import os
 import subprocess
 
-from hostile.answers import Answer, wrong_with
 from hostile.inputs import worked_cases, worked_inputs
-from hostile.mutations import SIZE, mutant
-from hostile.reading import denied
-from new_enemy_tools.files import split_joined
 from hostile.loading import loaded_file
+from hostile.mutations import SIZE, mutant
+from hostile.program_runs import Answer, wrong_with
+from hostile.second_reading import denied
+from new_enemy_tools.files import split_joined
 from tests.support import DEV, Case
 
 CLEAN = b"entries 1\nfindings 0\nverdict clean\n"

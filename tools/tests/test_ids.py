@@ -4,8 +4,8 @@ from random import Random
 from unittest import mock
 
 from new_enemy_tools.ids import Ids, TableFault
-from tests.test_core import RULES, CoreCase, check, rel, write
 from tests.test_openfga import MODEL, THIS, change
+from tests.test_trace_maker import RULES, CoreCase, check, rel, write
 
 REPORT = "line 3: F10 wrong reply\nentries 1\nfindings 1\nverdict dirty\n"
 

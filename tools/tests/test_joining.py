@@ -12,6 +12,7 @@ from new_enemy_tools.recording.sketches import Given, JoinFault, Row
 from new_enemy_tools.recording.spine import Spine
 from tests.recorded import Client
 from tests.simulated_crowd import run_crowd
+from tests.simulated_case import SimulatedCase
 from tests.support import Case
 from tests.test_recording_openfga import DOCUMENTS, EARLY, FIXED, MODEL, USERS, OpenFga, key
 from tests.test_recording_spicedb import FULL, SpiceDb, at_least
@@ -19,34 +20,22 @@ from tests.test_recording_spicedb import FULL, SpiceDb, at_least
 SEEDS = 200
 
 
-class Simulated(Case):
+class Simulated(SimulatedCase):
     """Two or three recorders, of which some begin later or end earlier; versions are saved through one and shown through another."""
 
+    RUN = run_crowd
+
     def test_no_right_reply_is_accused_and_no_wrong_one_passes(self):
-        recorded = lost = shown = 0
-        for seed in range(SEEDS):
-            world, verdict = run_crowd(seed)
-            self.assertEqual(verdict.faults(), [], "seed %d" % seed)
-            recorded, lost = recorded + len(verdict.entries), lost + verdict.lost
-            shown += sum(one.shows is not None and one.shows.world is not one.world for one in verdict.checks)
-        self.assertGreater(recorded, 2 * lost)
+        shown = sum(one.shows is not None and one.shows.world is not one.world for _, verdict in self.held(range(SEEDS)) for one in verdict.checks)
+        self.assertGreater(self.recorded, 2 * self.lost)
         self.assertGreater(shown, 40)
 
     def test_a_model_that_changes(self):
-        for seed in range(100):
-            self.assertEqual(run_crowd(seed, models=True)[1].faults(), [], "seed %d" % seed)
+        self.assert_holds(*range(100), models=True)
 
     def test_a_write_that_made_one_of_two_changes(self):
         """A tuple is added twice, and which of the two a write made that has its answer is not known."""
-        _, verdict = run_crowd(1164414)
-        self.assertEqual(verdict.faults(), [])
-
-    def assert_finds(self, fault, **values):
-        """Some seed shows the fault."""
-        for seed in range(1000):
-            if any(one.startswith(fault) for one in run_crowd(seed, **values)[1].faults()):
-                return
-        self.fail(fault)
+        self.assert_holds(1164414)
 
     def test_content_that_does_not_stand_before_what_shows_it(self):
         with mock.patch.object(Join, "_ordered", lambda self, placed: iter([placed.value])):

@@ -11,8 +11,8 @@ from unittest import mock
 
 from tests.random_windows import RandomHistory
 from tests.support import Case
-from tests.test_core import check, rel, write
 from tests.test_day import LOG, NEXT, WORDS
+from tests.test_trace_maker import check, rel, write
 
 HISTORIES = 12
 NAMES = re.compile("anne|bob|carla")

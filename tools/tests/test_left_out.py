@@ -7,13 +7,13 @@ from new_enemy_tools.coverage import coverage_in
 from new_enemy_tools.importing import causes
 from tests.random_traits import TRAITS, RandomLog, events, openfga_files, spicedb_files
 from tests.support import Case
-from tests.test_core import check as own_check
-from tests.test_core import rel
-from tests.test_core import write as own_write
 from tests.test_openfga import change, check as fga_check
 from tests.test_round_trips import token_text
 from tests.test_spicedb import check as zed_check
 from tests.test_spicedb import thing, update, watch
+from tests.test_trace_maker import check as own_check
+from tests.test_trace_maker import rel
+from tests.test_trace_maker import write as own_write
 
 RANDOM_TRAITS = int(os.environ.get("RANDOM_TRAITS", "40"))
 STRUCK = "check that hangs on a tuple or rule that was left out"

@@ -2,11 +2,11 @@
 import json
 
 from tests.support import EXAMPLES, Case
-from tests.test_core import RULES, CoreCase, check, content, rel, write
 from tests.test_openfga import MODEL, THIS, change
 from tests.test_openfga import check as fga_check
 from tests.test_spicedb import SCHEMA, VIEW, watch
 from tests.test_spicedb import check as zed_check
+from tests.test_trace_maker import RULES, CoreCase, check, content, rel, write
 
 TRACE = [
     {"kind": "namespace", "name": "doc", "relations": [{"name": "viewer"}, {"name": "old"}, {"name": "reader", "rewrite": {
@@ -45,7 +45,7 @@ class Mistyped(CoreCase):
             'log:2: unknown key "sequnce"; is "sequence" meant?', 'log:4: unknown key "verison"; is "version" meant?',
             'log:5: unknown key "Token"; is "token" meant?', 'log:6: unknown key "versoin"; is "version" meant?'])
         self.put("schema", SCHEMA % VIEW)
-        self.put("log", [watch(5), zed_check() | {"token": "5"}, watch(6) | {"Time": "2024-01-01T00:00:00Z"}])
+        self.put("log", [watch(5, isCheckpoint=True), zed_check() | {"token": "5"}, watch(6) | {"Time": "2024-01-01T00:00:00Z"}])
         self.assertEqual(self.refused("spicedb", "--schema", "schema", "--from-empty", "log"), [
             'log:2: unknown key "token"', 'log:3: unknown key "Time"; is "time" meant?'])
 

@@ -11,6 +11,7 @@ from new_enemy_tools.recording.log_files import LogFiles
 from new_enemy_tools.recording.sketches import JoinFault, Row
 from tests.simulated_crowd import run_live
 from tests.simulation import given_of
+from tests.simulated_case import SimulatedCase
 from tests.support import Case
 from tests.test_joining import change, check, events, lines
 
@@ -20,8 +21,10 @@ PROGRAM = os.path.abspath(os.environ["NEW_ENEMY"])
 WAITED = 200 * 10 ** 6
 
 
-class Simulated(Case):
+class Simulated(SimulatedCase):
     """Recorders whose logs are joined at many times, each with some of its lines; at some times it is begun again."""
+
+    RUN = run_live
 
     def test_no_right_reply_is_accused_and_no_wrong_one_passes(self):
         recorded = lost = rounds = begun = 0
@@ -37,12 +40,10 @@ class Simulated(Case):
         self.assertGreater(begun, 1.5 * SEEDS)
 
     def test_a_model_that_changes(self):
-        for seed in range(SEEDS // 3):
-            self.assertEqual(run_live(seed, models=True)[1].faults(), [], "seed %d" % seed)
+        self.assert_holds(*range(SEEDS // 3), models=True)
 
     def test_a_log_that_begins_among_changes_that_came_at_once(self):
-        _, verdict = run_live(1017163)
-        self.assertEqual(verdict.faults(), [])
+        self.assert_holds(1017163)
 
     def findings(self, rows, name):
         """What an audit finds of a joined log, by where each check stands."""
@@ -65,13 +66,6 @@ class Simulated(Case):
             self.assertEqual(live, whole, "seed %d" % seed)
             found |= {(seed, *one) for one in live}
         self.assertGreater(len(found), 12)
-
-    def assert_finds(self, fault, **values):
-        """Some seed shows the fault."""
-        for seed in range(1000):
-            if any(one.startswith(fault) for one in run_live(seed, **values)[1].faults()):
-                return
-        self.fail(fault)
 
     def test_a_version_that_is_not_waited_for(self):
         with mock.patch.object(Round, "_reach", lambda self, log: 1 << 62):

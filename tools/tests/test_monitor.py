@@ -28,11 +28,11 @@ from tests import test_joining
 from tests.ports import free_port
 from tests.recorded import READY, Client, Recorded
 from tests.support import EXAMPLES, NE, TOP
-from tests.test_core import check, content, rel, write
 from tests.test_going_on import RULES, events_of
 from tests.test_recording_openfga import MODEL
 from tests.test_recording_openfga import Loaded as OpenFgaLoaded
 from tests.test_recording_spicedb import Loaded as SpiceDbLoaded
+from tests.test_trace_maker import check, content, rel, write
 
 PROGRAM = os.path.abspath(os.environ["NEW_ENEMY"])
 KILLS = int(os.environ.get("KILLS", "20"))

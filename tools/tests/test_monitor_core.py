@@ -10,9 +10,9 @@ from collections import Counter
 from random import Random
 
 from tests.simulated_monitor import told_by
-from tests.test_core import CoreCase, rel, write
 from tests.test_going_on import RULES, events_of
 from tests.test_monitor_stream import BASE, PLACE, lines_of
+from tests.test_trace_maker import CoreCase, rel, write
 
 SEEDS = int(os.environ.get("SEEDS", "25"))
 

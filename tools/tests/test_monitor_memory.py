@@ -7,10 +7,10 @@ from unittest import mock
 
 from new_enemy_tools.commands.monitor import given_of, way_of
 from new_enemy_tools.monitoring import holding, tail
-from new_enemy_tools.monitoring.machine import Machine
-from tests.test_core import check, content, rel, write
+from new_enemy_tools.monitoring.devices import Machine
 from tests.test_going_on import RULES
 from tests.test_monitor import BASE, PLACE, PROGRAM, Monitoring, files_of, timed
+from tests.test_trace_maker import check, content, rel, write
 
 # So many lines are taken at once, a run has one more where it is full, and so many there are.
 LINES, RUN_BYTES, ROUNDS = 60, 12_000, 400

@@ -12,8 +12,8 @@ from new_enemy_tools.monitoring.live_page import SILENT, Live, page_of
 from tests.ports import free_port
 from tests.recorded import READY
 from tests.support import Case
-from tests.test_core import check, rel, write
 from tests.test_monitor import BASE, PLACE, RULES, Hooked, files_of, timed
+from tests.test_trace_maker import check, rel, write
 
 BROWSER = shutil.which("chromium") or shutil.which("chromium-browser") or shutil.which("google-chrome")
 GOOD = Live("log", 1_700_000_000 * 10 ** 9, 3, 1200, {}, {}, ("checks: 1200 whole",), Labels(1200, 40, 50), 0, (), 0.0, (), (), 0)

@@ -4,17 +4,17 @@ import signal
 
 from new_enemy_tools.monitoring.stopping import BROKEN_OFF, BROKEN_OFF_STATUS
 from tests.support import TOOLS
-from tests.test_core import check, rel, write
 from tests.test_going_on import RULES
 from tests.test_monitor import BASE, PLACE, PROGRAM, Monitoring, compact, files_of, timed
+from tests.test_trace_maker import check, rel, write
 
 # A monitor that waits nearly always, and whose handler of signals takes longer than that, as on a machine with much
 # other work.
 LATE = """
 import signal, sys, time
 from new_enemy_tools.commands import ne
-from new_enemy_tools.monitoring import machine
-machine.POLL = 0.3
+from new_enemy_tools.monitoring import devices
+devices.POLL = 0.3
 real = signal.signal
 
 def late(number, handler):
@@ -89,6 +89,21 @@ class Stops(Monitoring):
         self.assertIn(BROKEN_OFF.decode(), self.get("monitor.err"))
         self.wait_for(lambda: not os.path.exists("/proc/%d" % program))
         self.assert_goes_on()
+
+    def test_a_program_that_fails_by_itself(self):
+        """Where it has no room to write, no memory, or is killed, the log is not to blame, and the next monitor goes on."""
+        for ending, why in (("echo 'write fault after 0 bytes' >&2; exit 5", "ended with status 5: write fault after 0 bytes"),
+                            ("echo 'out of memory' >&2; exit 4", "ended with status 4: out of memory"),
+                            ("kill -KILL $$", "was killed by signal 9")):
+            with self.subTest(why):
+                self.put("failing", "#!/bin/sh\ncat > /dev/null\n%s\n" % ending)
+                os.chmod(self.path("failing"), 0o755)
+                events = [RULES, BASE, PLACE, write(5, DOC), write(10, remove=[DOC]), check(10, True, DOC)]
+                self.put_log(files_of(timed(events), []))
+                self.ends(self.monitor("--once", "--program", self.path("failing")), 5)
+                self.assertIn("monitor: %s %s" % (self.path("failing"), why), self.get("monitor.err"))
+        self.ends(self.monitor("--once"))
+        self.assertEqual([row["kind"] for row in self.told()], ["stopped"] * 3 + ["finding"])
 
     def test_a_program_that_is_told_to_stop_too(self):
         """As systemd tells all processes of a unit."""

@@ -7,11 +7,11 @@ import unittest
 from random import Random
 from unittest import mock
 
+from new_enemy_tools.faults import MonitorFault
 from new_enemy_tools.ids import Ids
 from new_enemy_tools.importing import causes
 from new_enemy_tools.importing.times import nanoseconds
 from new_enemy_tools.monitoring import holding as holding_of
-from new_enemy_tools.monitoring.faults import MonitorFault
 from new_enemy_tools.monitoring.holding import STATE_WAIT, WRITE_WAIT, Holding
 from new_enemy_tools.monitoring.midnights import NoZone, midnight_after, zone_of
 from new_enemy_tools.monitoring.run import Begun, Run
@@ -20,8 +20,8 @@ from new_enemy_tools.windowing.beginning import Keep
 from new_enemy_tools.windowing.state import NOTHING
 from tests.random_traits import RandomLog, events
 from tests.test_circles import Ring
-from tests.test_core import CoreCase, check, content, rel, write
 from tests.test_going_on import NEWLY_READ, READ, RULES, UNREAD, between, events_of
+from tests.test_trace_maker import CoreCase, check, content, rel, write
 
 BASE = write(0, base=True)
 PLACE = {"event": "place", "revision": 0}
@@ -252,22 +252,15 @@ class Held(CoreCase):
             self.assertEqual(self.taken(holding, 0.0), ["check"])
 
     def test_days(self):
-        """The lines of a day come before its end, also where both came together."""
-        holding = Holding(30.0, True)
-        days = [check(0, time="2026-11-%02dT00:00:00Z" % day) for day in (26, 26, 27, 28, 28)]
-        holding.put(Chunk("log", 1, b"".join(lines_of(days))), 0.0)
-        found = [holding.ready(lambda *_: False, -1, 0.0) for _ in range(4)]
-        self.assertEqual([([chunk.first for chunk in one.chunks], one.is_over) for one in found],
-                         [([1], True), ([3], True), ([4], False), ([], False)])
-
-    def test_days_of_a_zone(self):
-        """In winter Berlin is an hour ahead."""
-        holding = Holding(30.0, True, zone=zone_of("Europe/Berlin"))
-        days = [check(0, time="2026-11-26T%s:00Z" % time) for time in ("22:59", "23:00", "23:59")]
-        holding.put(Chunk("log", 1, b"".join(lines_of(days))), 0.0)
-        found = [holding.ready(lambda *_: False, -1, 0.0) for _ in range(2)]
-        self.assertEqual([([chunk.first for chunk in one.chunks], one.is_over) for one in found],
-                         [([1], True), ([2], False)])
+        """The lines of a day come before its end, also where both came together. In winter Berlin is an hour ahead."""
+        for zone, times, wanted in (
+                (zone_of("UTC"), ["%02dT00:00" % day for day in (26, 26, 27, 28, 28)], [([1], True), ([3], True), ([4], False), ([], False)]),
+                (zone_of("Europe/Berlin"), ["26T22:59", "26T23:00", "26T23:59"], [([1], True), ([2], False)])):
+            with self.subTest(zone=zone):
+                holding = Holding(30.0, True, zone=zone)
+                holding.put(Chunk("log", 1, b"".join(lines_of([check(0, time="2026-11-%s:00Z" % time) for time in times]))), 0.0)
+                found = [holding.ready(lambda *_: False, -1, 0.0) for _ in wanted]
+                self.assertEqual([([chunk.first for chunk in one.chunks], one.is_over) for one in found], wanted)
 
 
 class Midnights(unittest.TestCase):

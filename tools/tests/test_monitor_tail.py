@@ -1,12 +1,12 @@
 """A log's files as a monitor reads them while they grow: whole lines, each once, whatever a recorder does with its files."""
 import os
 
-from new_enemy_tools.monitoring.faults import MonitorFault
+from new_enemy_tools.faults import MonitorFault
 from new_enemy_tools.monitoring.tail import Place, Tail
 from new_enemy_tools.recording.log_files import pack
 from tests.support import Case
-from tests.test_core import check
 from tests.test_monitor import compact, files_of
+from tests.test_trace_maker import check
 
 CHECKS = [check(number) for number in range(6)]
 

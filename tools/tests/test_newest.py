@@ -2,9 +2,9 @@
 from random import Random
 
 from new_enemy_tools.importing import causes
-from tests.test_core import RULES, CoreCase, check, content, rel, write
 from tests.test_openfga import MODEL, THIS, change
 from tests.test_openfga import check as fga_check
+from tests.test_trace_maker import RULES, CoreCase, check, content, rel, write
 
 
 def second(number):

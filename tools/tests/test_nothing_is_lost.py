@@ -10,7 +10,7 @@ from random import Random
 from new_enemy_tools.coverage import coverage_in, of_row
 from new_enemy_tools.importing import causes
 from tests.support import Case
-from tests.test_core import RULES
+from tests.test_trace_maker import RULES
 
 # So many in each run of the tests; NEW_ENEMY_LOGS=2000 takes more.
 LOGS = int(os.environ.get("NEW_ENEMY_LOGS", "200"))

@@ -1,11 +1,11 @@
 """One odd line is one odd line: what records no decision is counted, what can be left out is, and what strikes all is said once."""
 from new_enemy_tools.importing import causes
 from new_enemy_tools.importing.refusals import HINT
-from tests.test_core import RULES, CoreCase, check, content, rel, write
 from tests.test_openfga import MODEL, THIS, change
 from tests.test_openfga import check as fga_check
 from tests.test_spicedb import SCHEMA, VIEW, update, watch
 from tests.test_spicedb import check as zed_check
+from tests.test_trace_maker import RULES, CoreCase, check, content, rel, write
 
 KEY = {"tuple_key": {"user": "user:a", "relation": "viewer", "object": "doc:1"}}
 

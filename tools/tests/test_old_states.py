@@ -11,9 +11,9 @@ from hashlib import sha256
 from random import Random
 
 from tests.support import TOOLS
-from tests.test_core import check, write
 from tests.test_day import WORDS, rel
 from tests.test_monitor import Monitoring, compact, timed
+from tests.test_trace_maker import check, write
 from tests.test_windows import NO_CARRY, Told, WindowCase, order
 
 with gzip.open(os.path.join(TOOLS, "tests", "data", "old_states.json.gz"), "rt", encoding="utf-8") as opened:

@@ -15,6 +15,7 @@ from new_enemy_tools.recording.joining import Join
 from new_enemy_tools.recording.sketches import Given, JoinFault, Row
 from tests.simulated_overheard import run_overheard
 from tests.stand_in_openfga import STORE
+from tests.simulated_case import SimulatedCase
 from tests.support import Case
 from tests.test_joining import events
 from tests.stand_in_spicedb import wrapped
@@ -117,27 +118,17 @@ class OfSpiceDb(Case):
             self.assertEqual(str(found.exception), said)
 
 
-class Simulated(Case):
+class Simulated(SimulatedCase):
     """OpenFGA's log, and taps, whose clocks may be apart from that of the recorder."""
 
+    RUN = run_overheard
+
     def test_no_right_reply_is_accused_and_no_wrong_one_passes(self):
-        recorded = lost = 0
-        for seed in range(SEEDS):
-            _, verdict = run_overheard(seed)
-            self.assertEqual(verdict.faults(), [], "seed %d" % seed)
-            recorded, lost = recorded + len(verdict.entries), lost + verdict.lost
-        self.assertGreater(2 * recorded, lost)
+        self.assert_holds(*range(SEEDS))
+        self.assertGreater(2 * self.recorded, self.lost)
 
     def test_a_model_that_changes(self):
-        for seed in range(SEEDS // 3):
-            self.assertEqual(run_overheard(seed, models=True)[1].faults(), [], "seed %d" % seed)
-
-    def assert_finds(self, fault):
-        """Some seed shows the fault."""
-        for seed in range(1000):
-            if any(one.startswith(fault) for one in run_overheard(seed)[1].faults()):
-                return
-        self.fail(fault)
+        self.assert_holds(*range(SEEDS // 3), models=True)
 
     def test_clocks_that_are_apart_by_more_than_it_is_told(self):
         kept = joining.placing_of

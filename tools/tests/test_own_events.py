@@ -19,6 +19,7 @@ from tests.simulated_spicedb import run_apart as run_tokens_apart
 from tests.simulation import run_apart
 from tests.recorded import Client
 from tests.stand_in_openfga import STORE
+from tests.simulated_case import SimulatedCase
 from tests.support import EXAMPLES, Case
 from tests.test_joining import change, events, lines
 from tests.test_recording_openfga import EARLY, FIXED, MODEL, USERS, OpenFga, key
@@ -64,24 +65,15 @@ def joined(log_rows, *own, skew=0, stale=0):
     return list(Join([given("log", log_rows)], skew, [own_of(given("own%d" % number, rows)) for number, rows in enumerate(own)], stale).lines())
 
 
-class Simulated(Case):
+class Simulated(SimulatedCase):
+    RUN = run_apart
+
     def test_no_right_reply_is_accused_and_no_wrong_one_passes(self):
-        recorded = lost = 0
-        for seed in range(SEEDS):
-            _, verdict = run_apart(seed)
-            self.assertEqual(verdict.faults(), [], "seed %d" % seed)
-            recorded, lost = recorded + len(verdict.entries), lost + verdict.lost
-        self.assertGreater(recorded, 1.5 * lost)
+        self.assert_holds(*range(SEEDS))
+        self.assertGreater(self.recorded, 1.5 * self.lost)
 
     def test_a_model_that_changes(self):
-        for seed in range(100):
-            self.assertEqual(run_apart(seed, models=True)[1].faults(), [], "seed %d" % seed)
-
-    def assert_finds(self, fault, **values):
-        for seed in range(1000):
-            if any(one.startswith(fault) for one in run_apart(seed, **values)[1].faults()):
-                return
-        self.fail(fault)
+        self.assert_holds(*range(100), models=True)
 
     def test_an_order_that_is_not_known_taken_for_known(self):
         with mock.patch.object(Places, "is_unsure", lambda *words: False):
@@ -99,16 +91,14 @@ class Simulated(Case):
             self.assert_finds("a right reply is called wrong", stale=10 ** 7, faults=0)
 
 
-class OfSpiceDb(Case):
+class OfSpiceDb(SimulatedCase):
     """The same of SpiceDB, whose answers say what they saw."""
 
+    RUN = run_tokens_apart
+
     def test_the_findings_are_those_of_the_truth(self):
-        recorded = lost = 0
-        for seed in range(SEEDS):
-            _, verdict = run_tokens_apart(seed)
-            self.assertEqual(verdict.faults(), [], "seed %d" % seed)
-            recorded, lost = recorded + len(verdict.entries), lost + verdict.lost
-        self.assertGreater(recorded, 3 * lost)
+        self.assert_holds(*range(SEEDS))
+        self.assertGreater(self.recorded, 3 * self.lost)
 
     def assert_finds(self, fault, changed=None):
         """By a recorder or a join that is wrong in a way."""
@@ -118,10 +108,7 @@ class OfSpiceDb(Case):
             kept(self, *words)
             changed(self)
         with mock.patch.object(Tokened, "__init__", made if changed else kept):
-            for seed in range(600):
-                if any(one.startswith(fault) for one in run_tokens_apart(seed)[1].faults()):
-                    return
-        self.fail(fault)
+            super().assert_finds(fault, 600)
 
     def test_rules_that_are_not_known_taken_for_known(self):
         self.assert_finds("a right check is accused of a wrong reply", lambda placing: placing.sketch.unsure.clear())

@@ -8,14 +8,16 @@ import tarfile
 import tempfile
 import textwrap
 import unittest
+import zipfile
 
 from new_enemy_tools import VERSION
-from packing.faults import PackageFault
+from packing.package_faults import PackageFault
 from packing.proof import proved_text
 from packing.sources import Commit, File
+from tests.documents import read, transcripts
+from tests.installed import python_with
 from tests.packaged import HAS_DEB, NO_DEB, commit, done, made, package, passed, plain, run
 from tests.support import Case
-from tests.documents import read, transcripts
 
 FORCED = ["--force-not-root", "--force-script-chrootless", "--force-depends", "--force-bad-path"]
 
@@ -279,6 +281,47 @@ class Debian(Used):
         self.assertEqual([path for path in listed if path.startswith("./usr/bin/") and path != "./usr/bin/"],
                          ["./usr/bin/new_enemy", "./usr/bin/new-enemy-tools"])
         self.assertFalse([path for path in listed if os.path.basename(path).split(".")[0] in ("ne", "_ne") and "/lib/new_enemy/" not in path])
+
+
+def content_below(folder: str) -> dict[str, bytes]:
+    found = {}
+    for path in files_below(folder):
+        if os.path.isfile(os.path.join(folder, path)):
+            with open(os.path.join(folder, path), "rb") as file:
+                found[path] = file.read()
+    return found
+
+
+class Wheel(Case):
+    """What pip installs of a clone."""
+
+    @unittest.skipUnless(HAS_DEB, NO_DEB)
+    def test_its_files_are_those_of_the_debian_package(self) -> None:
+        """But for the two programs that stand beside the package there: pip writes its own, which calls what tools/ne calls."""
+        python = python_with("setuptools", "wheel")
+        if not python:
+            self.skipTest("setuptools and wheel are not installed (python3-setuptools, python3-wheel)")
+        done(["git", "clone", "-q", made().top, self.path("clone")], self.room)
+        done([python, "-c", "from setuptools import build_meta; build_meta.build_wheel('..')"], self.path("clone"))
+        name = "new_enemy-%s" % VERSION
+        with zipfile.ZipFile(self.path(name + "-py3-none-any.whl")) as wheel:
+            wheel.extractall(self.path("wheel"))
+        os.rename(self.path("wheel/%s.dist-info" % name), self.path("about"))
+        os.rename(self.path("wheel/%s.data/data/lib/new_enemy/parts.d" % name), self.path("wheel/parts.d"))
+        done(["dpkg-deb", "--extract", made().deb, self.path("deb")], self.room)
+        there = content_below(self.path("deb/usr/lib/new_enemy"))
+        self.assertEqual({path for path in there if "/" not in path}, {"ne", "record"})
+        here = content_below(self.path("wheel"))
+        self.assertEqual(sorted(here), sorted(path for path in there if "/" in path))
+        self.assertEqual([path for path in here if here[path] != there[path]], [])
+        self.assertEqual(self.get("about/entry_points.txt"), "[console_scripts]\nnew-enemy-tools = new_enemy_tools.commands.ne:called\n")
+        called = "import sys; from new_enemy_tools.commands.ne import called; sys.argv = ['ne', '--version']; called()"
+        self.assertEqual(done([sys.executable, "-c", called], self.path("wheel")), "new_enemy tools %s\n" % VERSION)
+
+    def test_its_extras_are_what_the_debian_package_suggests(self) -> None:
+        extras = re.findall(r'(?m)^\w+ = \["(\w+)"\]$', read("pyproject.toml").split("[project.optional-dependencies]")[1].split("\n\n")[0])
+        suggested = re.findall(r"python3-(\w+)", read("tools", "dev", "packing", "contents.py").split("Suggests:")[1].split("\n")[0])
+        self.assertEqual(sorted(extra.lower().removeprefix("py") for extra in extras), sorted(suggested))
 
 
 class CLibrary(Case):

@@ -1,5 +1,4 @@
 """The page of a report, as text and in a browser without a screen."""
-import json
 import os
 import re
 import shutil

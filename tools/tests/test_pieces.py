@@ -8,10 +8,9 @@ import subprocess
 from random import Random
 from unittest import mock
 
-from new_enemy_tools import pieces
-from new_enemy_tools.pieces import PiecesReader, PiecesWriter, pieces_of
+from new_enemy_tools.trace_pieces import PiecesReader, PiecesWriter, pieces_of
 from tests.support import Case
-from tests.test_core import RULES, check, content, rel, write
+from tests.test_trace_maker import RULES, check, content, rel, write
 
 LEAST = 1_000
 TOLD = "trace.jsonl: the trace is in pieces, since it has more bytes than one program takes\n"
@@ -274,7 +273,7 @@ class Killed(PiecesCase):
         self.put("log", log(40))
         given = ("events", "--from-empty", "--jobs", "1", "--piece-bytes", str(LEAST), "log")
         for fault in (KeyboardInterrupt, OSError(28, "No space left on device")):
-            for place in ("new_enemy_tools.pieces.PiecesWriter.end", "new_enemy_tools.ids.Ids.append", "json.dumps"):
+            for place in ("new_enemy_tools.trace_pieces.PiecesWriter.end", "new_enemy_tools.ids.Ids.append", "json.dumps"):
                 with mock.patch(place, side_effect=fault):
                     try:
                         status, _ = self.run_import(*given)
@@ -282,14 +281,14 @@ class Killed(PiecesCase):
                     except KeyboardInterrupt:
                         pass
                 self.assertEqual(self.left(), [], (fault, place))
-        with mock.patch("new_enemy_tools.pieces.MOST", 2):
+        with mock.patch("new_enemy_tools.trace_pieces.MOST", 2):
             status, said = self.run_import(*given)
         self.assertEqual((status, said), (2, "the trace has more than 2 pieces of 1000 bytes, and a cut has no more parts\n"))
         self.assertEqual(self.left(), [])
         states = [{**check(None, goal=rel("9")), "snapshot_between": [1, 3]}]
         del states[0]["snapshot"]
         self.put("log", [*log(40)[:-1], write(900, rel("1")), write(901, rel("2")), {**states[0], "snapshot_between": [1, 901]}])
-        with mock.patch("new_enemy_tools.importing.core.STATES", 2):
+        with mock.patch("new_enemy_tools.importing.trace_maker.STATES", 2):
             self.assertEqual(self.run_import(*given)[0], 6)
         self.assertNotEqual(self.left(), [])
 

@@ -8,7 +8,7 @@ from itertools import islice
 from random import Random
 from unittest import mock
 
-from new_enemy_tools.importing import block, carried, core, feed, located, printed
+from new_enemy_tools.importing import block, carried, feed, located, printed, trace_maker
 from new_enemy_tools.importing.carried import Blocks, Carrying, step_in
 from new_enemy_tools.importing.printed import steps_of
 from new_enemy_tools.importing.spool import Facts
@@ -17,7 +17,7 @@ from tests.test_blocks import BlockCase
 
 sys.path.append(os.path.join(TOOLS, "dev"))
 
-from speeding.forms import FORMS, OpenFga  # noqa: E402
+from speeding.printed_logs import FORMS, OpenFga  # noqa: E402
 from speeding.world import Check, World  # noqa: E402
 
 EVENTS = 160
@@ -45,7 +45,7 @@ class PrintedCase(BlockCase):
         self.put("log", "".join(text + "\n" for text in texts))
         words = [*self.form.words(), "log"]
         with mock.patch.object(block, "MOST", 0), mock.patch.object(Blocks, "read", in_turn), mock.patch.object(
-                core.Core, "_taken_ahead", lambda *_: None):
+                trace_maker.Core, "_taken_ahead", lambda *_: None):
             wanted = self.outcome(words, 1, 1 << 20)
         for jobs, size in ((1, 1 << 20), (1, 2000), (3, 6000)):
             self.assertEqual(self.outcome(words, jobs, size), wanted)

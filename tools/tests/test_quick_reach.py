@@ -4,7 +4,7 @@ from random import Random
 from typing import Optional
 from unittest import mock
 
-from new_enemy_tools.audited import read_audited
+from new_enemy_tools.audited_trace import read_audited
 from new_enemy_tools.meaning import Settled
 from new_enemy_tools.quick_reach import UNTOUCHED, Look
 from new_enemy_tools.reach import Reach

@@ -416,6 +416,22 @@ class Untold(Ending):
         self.import_log()
 
 
+    def test_both_recorders_of_a_folder_are_killed(self):
+        """No line tells what passed the one that waited; an import says so."""
+        self.begin("--hold", "0.2")
+        waiting, first = self.start_recorder(is_ready=False, said="waiting"), self.client
+        self.client = Client(self.port)
+        self.addCleanup(self.client.close)
+        self.ask("passes")
+        self.kill(self.recorder.pid, keeper_of(self.recorder), waiting.pid, keeper_of(waiting))
+        self.client = first
+        self.assertIn("gap beside the log: log/beside-", self.import_log())
+        self.recorder = self.start_recorder(said="again")
+        self.end(self.recorder)
+        self.assert_told()
+        self.assertNotIn("gap beside the log", self.import_log())
+
+
 class AtOnce(Ending):
     def test_while_clients_ask(self):
         """Whichever is ended first: what was answered stands in the log, or is counted."""

@@ -11,26 +11,13 @@ from random import Random
 
 from new_enemy_tools.importing import causes
 from new_enemy_tools.recording.openfga import UNORDERED
-from tests.recorded import Client, Recorded
+from tests.recorded import Client, Recorded, keeper_of
 from tests.stand_in_openfga import STORE
 from tests.test_recording_openfga import MODEL, OpenFga, key
 from tests.test_recording_spicedb import SpiceDb
 from tests.support import TOOLS
 
 SECRET = "a-secret-that-nobody-may-find"
-
-
-def keeper_of(recorder):
-    """The process of the keeper that a recorder started."""
-    for path in glob.glob("/proc/[0-9]*/stat"):
-        try:
-            with open(path, encoding="utf-8") as file:
-                words = file.read().rpartition(")")[2].split()
-        except OSError:
-            continue
-        if int(words[1]) == recorder.pid and words[0] != "Z":
-            return int(path.split("/")[2])
-    return None
 
 
 class Failing(OpenFga):

@@ -20,6 +20,7 @@ from new_enemy_tools.recording.openfga import NOT_NAMED
 from new_enemy_tools.recording import openfga_messages, spicedb_messages
 from new_enemy_tools.recording.protobuf import Malformed
 from tests import test_recording_openfga as over_http
+from tests.installed import python_with
 from tests.recorded import Recorded, counted
 from tests.support import TOOLS, Case
 from tests.stand_in_openfga import OTHER, STORE
@@ -28,16 +29,12 @@ from tests.test_recording_spicedb import CLIENTS, FINDINGS, REQUESTS
 OPENFGA, SPICEDB = openfga_messages.MESSAGES, spicedb_messages.MESSAGES
 
 
-def python_with_grpc():
-    for one in (sys.executable, "/usr/bin/python3"):
-        if os.path.exists(one) and subprocess.run([one, "-c", "import grpc, google.protobuf"], capture_output=True).returncode == 0:
-            return one
-    return None
+PYTHON = python_with("grpc", "google.protobuf")
 
 
 def use_grpc(case):
-    case.PYTHON = python_with_grpc()
-    if case.PYTHON is None:
+    case.PYTHON = PYTHON
+    if not PYTHON:
         case.skipTest("no Python here has grpcio and protobuf (python3-grpcio, python3-protobuf)")
 
 
@@ -235,8 +232,8 @@ class OpenFgaClient:
     """Asks over gRPC, by a process, what a client over HTTP would ask."""
 
     def __init__(self, port, key=None):
-        self.process = subprocess.Popen([python_with_grpc(), os.path.join(TOOLS, "tests", "openfga_grpc_client.py"), str(port)], text=True,
-                                        stdin=subprocess.PIPE, stdout=subprocess.PIPE)
+        words = [PYTHON, os.path.join(TOOLS, "tests", "openfga_grpc_client.py"), str(port)]
+        self.process = subprocess.Popen(words, text=True, stdin=subprocess.PIPE, stdout=subprocess.PIPE)
 
     def ask(self, path, body, **headers):
         _, _, store, call = path.split("/")

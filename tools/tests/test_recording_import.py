@@ -4,7 +4,7 @@ import json
 from new_enemy_tools.importing import causes
 from new_enemy_tools.importing.events import Relationship
 from new_enemy_tools.recording.ruled import Takes
-from tests.test_core import RULES, CoreCase, check, content, rel, write
+from tests.test_trace_maker import RULES, CoreCase, check, content, rel, write
 
 GAP = {"event": "gap", "from": "2024-01-01T00:00:00Z", "to": "2024-01-01T00:00:01Z", "reason": "why", "lost": 2, "time": "2024-01-01T00:00:01Z"}
 SAID = "the log has gaps: a verdict says nothing of what was asked in them\n"

@@ -3,13 +3,14 @@ import json
 import os
 import re
 import shutil
+import signal
 import stat
 import subprocess
 import sys
 
 from new_enemy_tools.recording.openfga import UNORDERED
 from tests.documents import read
-from tests.recorded import Client, Recorded, counted
+from tests.recorded import Client, Recorded, counted, keeper_of
 from tests.stand_in_openfga import STORE
 from tests.support import EXAMPLES, TOOLS, Case
 
@@ -313,6 +314,23 @@ class Written(OpenFga):
         self.assertLessEqual(set(self.lost()), {
             "a write was answered that the changes did not show within 1 seconds", "the changes were more than 1 seconds behind",
             "an answer took longer than 1 seconds", "the recorder ended before the changes that these needed: content checks"})
+
+    def test_a_change_that_is_never_shown_when_the_keeper_is_killed(self):
+        """What may rest on it is lost, and no right reply is called wrong."""
+        self.start_service(MODEL)
+        self.prepare()
+        recorder = self.begin("--hold", "1")
+        self.viewer("document:hidden")
+        os.kill(keeper_of(recorder), signal.SIGKILL)
+        self.wait_for(lambda: self.get("said").count("recording openfga") == 2, lambda: self.get("said"))
+        unshown = "a write was answered that the changes did not show within 1 seconds"
+        self.assertTrue(self.check(self.client, USERS[1], "viewer", "document:hidden")[1]["allowed"])
+        self.wait_for(lambda: unshown in self.lost(), lambda: self.get("said"))
+        self.assertTrue(self.check(self.client, USERS[1], "viewer", "document:hidden")[1]["allowed"])
+        self.end(recorder)
+        self.import_log()
+        self.assertEqual((self.found(), self.of_kind("check")), ({}, []), self.said_of_audit)
+        self.assertGreaterEqual(sum(self.lost().values()), 2)
 
 
 class WhoMayRead(OpenFga):

@@ -25,10 +25,10 @@ from new_enemy_tools.recording.beside import Beside, Word, Words
 from new_enemy_tools.recording.core import FOREVER, FULL, SET, UNTOLD, Begun, Core, Now
 from new_enemy_tools.recording.http_reading import BODY, Head, Messages, Strange, path_of
 from new_enemy_tools.recording.keeper import BESIDE, Keeper, Settings
-from new_enemy_tools.recording.log_files import LATER, InUse, Left, LogFault, LogFiles, Place
+from new_enemy_tools.recording.log_files import LATER, InUse, Left, LogFault, LogFiles, Place, Unshown
 from new_enemy_tools.recording.lines import gap_line, line, write_line
 from new_enemy_tools.recording.messages import UNKNOWN, Beat, Bye, Ended, Lost, Started, Teller, messages_from, packed
-from new_enemy_tools.recording.relay import Relay
+from new_enemy_tools.recording.relay import Relay, Side
 from new_enemy_tools.recording.openfga import asks_for_newest, call_of as openfga_call
 from new_enemy_tools.recording.openfga_feed import EMPTY, PAGE, OpenFgaFeed
 from new_enemy_tools.recording.sequencer import Commit, Known, Sequencer
@@ -39,6 +39,11 @@ from tests.support import Case
 SECOND = 10 ** 9
 SESSIONS = 300
 ANSWER = b"HTTP/1.1 200 OK\r\nContent-Type: application/json\r\n"
+
+
+def still():
+    """A service of which nothing comes."""
+    return mock.Mock(doubts=(), late=lambda before: [], noted=lambda revision: ([], []))
 
 
 def read_along(data, sizes):
@@ -321,7 +326,7 @@ class Order(Case):
 
     def test_how_much_waits(self):
         """A call that has no room is lost, and not the memory of the machine."""
-        core = Core(mock.Mock(), 30)
+        core = Core(still(), 30)
         for _ in range(3):
             core.sequencer.put_entry(9, 1, b"x" * 30, 1)
         message = Ended(2, "check", "", 0, 0, 0, None, None, None, 200, None, None, None)
@@ -331,7 +336,7 @@ class Order(Case):
 
     def test_a_clock_that_is_set_back(self):
         """The gap of what began by a later clock goes from the earlier time to the later one, as an import wants it."""
-        core = Core(mock.Mock(), 30)
+        core = Core(still(), 30)
         core.now = Now(10 ** 9, 5)
         core.lose("why", 3 * 10 ** 9)
         gap = json.loads(core.gaps.lines(core.now, True))
@@ -339,7 +344,7 @@ class Order(Case):
 
     def test_a_version_that_is_shown_when_the_clock_was_set_back(self):
         """The gap of its content begins before the time by which it was shown; that of a later recorder has no beginning."""
-        core = Core(mock.Mock(), 30)
+        core = Core(still(), 30)
         core.take(Beat(0), Now(100 * 10 ** 9, 10 ** 9))
         core.take(Lost(100 * 10 ** 9, 100 * 10 ** 9, 1, "why"), Now(50 * 10 ** 9, 2 * 10 ** 9))
         gap = json.loads(core.gaps.lines(core.now, True))
@@ -351,7 +356,7 @@ class Order(Case):
 
     def test_what_a_second_proxy_passed_while_the_first_recorder_still_wrote(self):
         """Its gap begins with the first that was lost, and not where the log before ends."""
-        core = Core(mock.Mock(), 30)
+        core = Core(still(), 30)
         core.left, core.is_first = Left(Place(None, 0, None), 0, 0, "1970-01-01T00:00:20Z", 0), False
         core.take(Lost(10 * 10 ** 9, 12 * 10 ** 9, 3, "why"), Now(21 * 10 ** 9, 10 ** 9))
         core.begin_log(Begun([], False, Place(None, 0, None)))
@@ -360,7 +365,7 @@ class Order(Case):
 
     def ready(self):
         """A core whose log goes on, ten seconds behind the beginning of both clocks; and the rows that it writes."""
-        core = Core(mock.Mock(late=mock.Mock(return_value=[]), doubts=()), 30)
+        core = Core(still(), 30)
         core.now = Now(10 * SECOND, 10 * SECOND)
         core.begin_log(Begun([], True, Place(None, 0, None)))
         core.drained()
@@ -373,7 +378,7 @@ class Order(Case):
         core.take(Bye(0), Now(25 * SECOND, 25 * SECOND))
         (gap,) = rows()
         self.assertEqual([gap["reason"], nanoseconds(gap["from"]), nanoseconds(gap["to"])], [UNTOLD, 20 * SECOND, 25 * SECOND])
-        waits = Core(mock.Mock(), 30)
+        waits = Core(still(), 30)
         waits.take(Beat(20 * SECOND), Now(20 * SECOND, 20 * SECOND))
         waits.take(Bye(0), Now(25 * SECOND, 25 * SECOND))
         self.assertEqual(waits.gaps.take(), (0, 20 * SECOND))
@@ -413,7 +418,7 @@ class Order(Case):
     def test_a_clock_that_is_set_is_told(self):
         """Around that, by either time, something may be lost when the recorder is killed; a clock that is read a little late was not set."""
         for wall in 50, 300:
-            core = Core(mock.Mock(), 30)
+            core = Core(still(), 30)
             core.is_ready = True
             for now in Now(100 * 10 ** 9, 10 ** 9), Now(101 * 10 ** 9 - 5_000_000, 2 * 10 ** 9), Now(wall * 10 ** 9, 3 * 10 ** 9):
                 core.take(Beat(0), now)
@@ -470,6 +475,43 @@ class Files(Case):
         log.add(line("place", **log.place.keys, doubts=[]))
         os.close(log._lock)
         self.assertEqual(self.log()[1].place.doubts, ())
+
+    def test_writes_that_are_not_shown(self):
+        """Those that no line has settled are left to the next recorder, over the end of a file too, and where it is ended before it goes on."""
+        one, other = (Unshown(number, ((("document", "d", "viewer", "user", user), True),), 10 * SECOND, 11 * SECOND)
+                      for number, user in ((1, "a"), (2, "b")))
+        log, _ = self.log(size=500)
+        self.begin(log)
+        log.unshown = lambda: [one, other]
+        log.add(line("place", **log.place.keys, unshown=[one.values, other.values], time="1970-01-01T00:00:11.000000Z"))
+        log.add(write_line(1, [], []) * 5)
+        log.add(line("place", **log.place.keys, shown=[1]))
+        os.close(log._lock)
+        self.assertGreater(len(self.paths()), 1)
+        for cut in 0, 10, 10_000:
+            log, left = self.log()
+            self.assertEqual(left.unshown, (other,))
+            log.add(gap_line(None, SECOND, "it never went on"))
+            os.close(log._lock)
+            # A kill in the midst of the first lines.
+            with open(self.paths()[-1], "r+b") as file:
+                lines = file.read().split(b"\n")
+                file.truncate(len(b"\n".join(lines)) if not cut else len(lines[0]) + min(cut, len(lines[1]) - 1))
+
+    def test_a_first_line_that_was_cut(self):
+        """However long it is; and where there is nothing of it."""
+        log, _ = self.log()
+        self.begin(log)
+        log.close()
+        os.close(log._lock)
+        for size in 0, 5, 5000:
+            self.put("log/000002.jsonl", (line("log", number=2, doubts=["x" * 10_000])[:size]).decode())
+            log, left = self.log()
+            self.assertEqual(left.place.rules, "r")
+            os.close(log._lock)
+        self.put("log/000002.jsonl", "x" * 10)
+        with self.assertRaises(LogFault):
+            self.log()
 
     def test_files_chain(self):
         log, left = self.log(size=300)
@@ -609,7 +651,7 @@ class OfOthers(Case):
     """Words in the folder of a log, of what passed other recorders."""
 
     def keeper(self):
-        made = Keeper(Settings("openfga", "", self.room, None, None, False, 30, 1, 0, 1 << 20, 3600), mock.Mock(doubts=()), None, mock.Mock())
+        made = Keeper(Settings("openfga", "", self.room, None, None, False, 30, 1, 0, 1 << 20, 3600), still(), None, mock.Mock())
         made.log = mock.Mock()
         made.core.is_ready, made.core.place = True, Place(None, 0, None)
         return made
@@ -687,6 +729,52 @@ class Telling(Case):
             self.read()
         self.assertEqual(sum(isinstance(one, Ended) for one in self.got) + sum(one.amount for one in self.got if isinstance(one, Lost)), 30)
         self.assertIsInstance(self.got[-1], Beat)
+
+    def test_writes_are_told_when_there_is_room_and_to_each_keeper(self):
+        """What was made may rest on nothing else; of those that failed nothing is to be known."""
+        writes = [Ended(number, "write", "/w", 3, 4, 5 + number, None, None, None, 400 if number == 9 else 200, b"x" * 100_000, b"{}", None)
+                  for number in range(30)]
+        with mock.patch("new_enemy_tools.recording.messages.ROOM", 1_000_000):
+            for one in writes:
+                self.teller.tell(one)
+            self.assertGreater(self.teller.lost.amount, 10)
+            self.read()
+        made = [one for one in writes if one.status == 200]
+        self.assertEqual([one for one in self.got if isinstance(one, Ended) and one.status == 200], made)
+        self.got, (mine, self.its) = [], socket.socketpair()
+        self.addCleanup(mine.close)
+        self.addCleanup(self.its.close)
+        mine.setblocking(False)
+        with mock.patch("new_enemy_tools.recording.messages.WRITTEN", 1_000_000):
+            self.teller.begin(mine)
+            self.read()
+        self.assertEqual([one for one in self.got if isinstance(one, Ended)], made)
+
+    def test_the_last_writes_alone_are_kept(self):
+        with mock.patch("new_enemy_tools.recording.messages.WRITTEN", 1_000_000):
+            for number in range(30):
+                self.teller.tell(Ended(number, "write", "/w", 3, 4, 5, None, None, None, 200, b"x" * 100_000, b"{}", None))
+        self.assertEqual([one.number for one in self.teller.writes.kept], list(range(21, 30)))
+
+    def test_the_answer_of_a_write_is_told_before_it_is_passed_on(self):
+        async def run():
+            relay, seen = Relay(urlsplit("http://127.0.0.1:1"), self.teller, openfga_call), []
+            client, service = relay.client(), Side(relay, None, False)
+            client.transport, service.transport = mock.Mock(), mock.Mock()
+            client.transport.is_closing = lambda: False
+            client.transport.write = lambda data: seen.append((data, [one for batch in self.told_now() for one in batch if isinstance(one, Ended)]))
+            service.reader, service.other = client.reader, client
+            client.begin(service)
+            for path in b"write", b"check":
+                client.take(b"POST /stores/S/%s HTTP/1.1\r\nHost: x\r\nContent-Length: 2\r\n\r\n{}" % path)
+                await asyncio.sleep(0)
+                service.take(b"HTTP/1.1 200 OK\r\nContent-Length: 2\r\n\r\n{}")
+            self.assertEqual([[one.call for one in told] for _, told in seen], [["write"], []])
+        asyncio.run(run())
+
+    def told_now(self):
+        self.its.setblocking(False)
+        return messages_from(self.its)
 
     def test_what_is_gathered_goes_at_once(self):
         """However little of it the socket takes at a time; before a request goes on, what was told of it has."""

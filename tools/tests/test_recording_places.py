@@ -375,6 +375,79 @@ class Writes(Case):
         self.read(20, 21)
         self.assertEqual((self.core.held, self.lost()["changes of a tuple that do not come by turns"], self.core.place.doubts), ({}, 1, ()))
 
+    def go_on(self, clock, *unshown, changes=(), known=(), early=(), heard=None):
+        """Another recorder goes on, which is told of some writes before it does."""
+        left = Left(self.core.place, 0, self.core.place.revision, None, 0, list(known), unshown=unshown, heard=heard)
+        self.service, self.lines = OpenFga(STORE, 0, 30 * SECOND), []
+        self.core = Core(self.service, 30.0)
+        self.core.left = left
+        self.overlap = Overlap(None, 10 ** 15)
+        self.feed = []
+        for asked, answered, user in early:
+            self.write(asked, answered, user)
+        self.at(clock, Base(STORE, left, Stored(), list(changes), "c", *RULES, clock - 1, clock))
+
+    def told_of_unshown(self):
+        """What the lines say of writes that are not shown, and of those that are no more."""
+        rows = [row for row in map(json.loads, self.lines) if row["event"] == "place"]
+        return [(one["number"], one["add"]) for row in rows for one in row.get("unshown", ())], [one for row in rows for one in row.get("shown", ())]
+
+    def test_the_log_has_what_is_not_shown_yet(self):
+        self.write(3, 4, "a")
+        self.assertEqual(self.told_of_unshown(), ([(1, [["document", "d", "viewer", "user", "a"]])], []))
+        self.read(5, 6)
+        self.assertEqual(self.told_of_unshown()[1], [])
+        self.read(7, 8, change("a"))
+        self.read(20, 21)
+        self.assertEqual((self.told_of_unshown()[1], self.service.unshown()), ([1], []))
+
+    def test_what_is_not_shown_when_a_recorder_is_killed_is_waited_for_by_the_next(self):
+        """Also by what the changes show at once; and what is never shown puts checks in doubt."""
+        self.write(3, 4, "a")
+        unshown = self.service.unshown()
+        self.go_on(11, *unshown, changes=[change("a")])
+        self.assertEqual(self.service.unshown(), [])
+        self.go_on(11, *unshown)
+        waits = self.check(12, 13)
+        self.read(14, 15)
+        self.assertIn(waits, self.core.held)
+        self.read(16, 17, change("a"))
+        self.read(40, 41)
+        self.read(60, 61)
+        self.assertEqual((self.core.held, self.told_of_unshown()[1]), ({}, [1]))
+        self.go_on(11, *unshown)
+        self.check(12, 13)
+        self.read(40 * SECOND, 41 * SECOND)
+        self.check(42 * SECOND, 42 * SECOND + 1)
+        self.read(43 * SECOND, 44 * SECOND)
+        self.assertEqual((self.core.held, self.lost()["a write was answered that the changes did not show within 30 seconds"]), ({}, 2))
+
+    def test_what_a_proxy_tells_again_when_its_keeper_was_killed(self):
+        """Of that counts what is later than the last line of the log, and what its last changes do not have."""
+        known = [Shown(("document", "d", "viewer", "user", "b"), True, 0)]
+        self.go_on(9000, known=known, early=((1000, 2000, "a"), (3000, 5000, "b"), (3000, 5000, "c")), heard=2500)
+        self.assertEqual([key[0].user_id for made in self.service.made for key in made.keys], ["c"])
+
+    def test_what_a_proxy_tells_again_and_cannot_be_read(self):
+        """It is lost; the log goes on."""
+        left = Left(self.core.place, 0, self.core.place.revision, None, 0)
+        self.service = OpenFga(STORE, 0, 30 * SECOND)
+        self.core, self.core.left = Core(self.service, 30.0), left
+        for number, body in enumerate((b"{", b'{"unknown":1}', b"[]")):
+            self.at(5, Ended(number, "write", "/stores/S/write", 3, 4, 4, None, None, None, 200, body, b"{}", None))
+        self.at(11, Base(STORE, left, Stored(), [], "c", *RULES, 10, 11))
+        self.assertTrue(self.core.is_ready)
+        self.assertGreaterEqual(sum(self.core.lost.values()), 2)
+
+    def test_too_many_writes_that_are_not_shown_put_all_in_doubt(self):
+        with mock.patch("new_enemy_tools.recording.openfga.MADE", 3):
+            for number in range(5):
+                self.write(3 + number, 3 + number, "u%d" % number, thing="far%d" % number)
+            self.read(40 * SECOND, 41 * SECOND)
+            self.check(42 * SECOND, 43 * SECOND)
+            self.read(44 * SECOND, 45 * SECOND)
+        self.assertEqual((self.core.held, sum(self.lost().values())), ({}, 1))
+
     def test_too_many_in_doubt_put_all_in_doubt(self):
         with mock.patch("new_enemy_tools.recording.openfga.TAINTED", 3):
             for number in range(5):

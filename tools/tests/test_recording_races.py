@@ -3,6 +3,7 @@ import asyncio
 import gzip
 import http.client
 import os
+import signal
 import socket
 import threading
 import time
@@ -78,6 +79,29 @@ class Raced(OpenFga):
         self.end(recorder)
         self.import_log()
         self.assertEqual((self.found(), len(self.of_kind("check"))), ({}, 1), self.said_of_audit)
+
+    def test_a_write_that_is_not_shown_when_the_keeper_is_killed(self):
+        """The next keeper knows of it, and waits until it is shown: a check that sees it is no wrong reply. So it is where the proxy is killed too."""
+        recorder = self.begin(0, 3)
+        for turn in range(2):
+            self.write(self.client, key("user:%d" % turn, "viewer", "document:1"))
+            keeper = keeper_of(recorder)
+            if turn:
+                self.wait_for(lambda: any("unshown" in row for row in self.of_kind("place")))
+                recorder.kill()
+            os.kill(keeper, signal.SIGKILL)
+            if turn:
+                recorder.wait(READY)
+                recorder = self.start_recorder()
+                self.client.port = self.port
+                self.client.close()
+            else:
+                self.wait_for(lambda: self.get("said").count("recording openfga") == 2, lambda: self.get("said"))
+            self.assertTrue(self.check(self.client, "user:%d" % turn, "viewer", "document:1")[1]["allowed"])
+            self.wait_for(lambda: len(self.of_kind("check")) == turn + 1, lambda: str(self.of_kind("gap")))
+        self.end(recorder)
+        self.import_log()
+        self.assertEqual(self.found(), {}, self.said_of_audit)
 
     def test_how_long_the_readings_rest(self):
         """As long after many that gave nothing as after the first."""

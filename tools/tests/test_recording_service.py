@@ -284,11 +284,11 @@ class Secured(OpenFga):
     def test_what_is_refused(self):
         self.put("bad", "no certificate\n")
         given = ["record", "--openfga", "http://127.0.0.1:1", "--listen", "127.0.0.1:%d" % free_port(), "--out", "log"]
-        for words, told in ((["--tls-cert", "bad"], "--tls-cert and --tls-key can't be used"), (["--tls-key", "bad"], "--tls-key goes with --tls-cert"),
-                            (["--service-ca", "bad"], "--service-ca can't be used"),
-                            (["--metrics", "x"], "--metrics is no ADDRESS:PORT"),
-                            (["--hold", "inf"], "a time is none below"), (["--poll", "nan"], "a time is none below"), (["--overlap", "-1"], "is below 0")):
-            run = self.run_process(*given, *words)
+        for more, told in ((["--tls-cert", "bad"], "--tls-cert and --tls-key can't be used"), (["--tls-key", "bad"], "--tls-key goes with --tls-cert"),
+                           (["--service-ca", "bad"], "--service-ca can't be used"),
+                           (["--metrics", "x"], "--metrics is no ADDRESS:PORT"),
+                           (["--hold", "inf"], "a time is none below"), (["--poll", "nan"], "a time is none below"), (["--overlap", "-1"], "is below 0")):
+            run = self.run_process(*given, *more)
             self.assertEqual(run.returncode, 3, run.stderr)
             self.assertIn(told, run.stderr)
 

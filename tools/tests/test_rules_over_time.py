@@ -126,8 +126,9 @@ class SpiceDb(Case):
 
     def test_refusals(self):
         bad = self.schema(2, "definition user {}\ndefinition doc {\n  relation viewer cat\n}\n")
-        self.assertEqual(self.refused(*self.words(watch(1), bad, self.schema("?", FIRST), watch(9, schemaUpdated=True), self.schema(3, 7),
-                                                  self.schema(revision(3, 3), FIRST))), [
+        log = [watch(1, isCheckpoint=True), bad, self.schema("?", FIRST), watch(9, schemaUpdated=True),
+               self.schema(3, 7), self.schema(revision(3, 3), FIRST)]
+        self.assertEqual(self.refused(*self.words(*log)), [
             "log:2: ':' should stand here, and not 'cat'",
             "log:3: `writtenAt` of the response has no token whose revision is a number or a snapshot of PostgreSQL",
             "log:4: the schema changes here, and the log has no WriteSchema of this revision", "log:5: `schema` is no text",

@@ -16,7 +16,6 @@ from new_enemy_tools.fitting.services import OpenFga as Scratch
 
 from tests.ports import free_port
 from tests.recorded import READY, Recorded
-from tests.stand_in_openfga import STORE
 from tests.support import NE, Case
 
 
@@ -24,7 +23,6 @@ class Tried(Recorded):
     SERVICE, STAND_IN = "openfga", "stand_in_scratch.py openfga"
     FOUND_STALE = ["F10 wrong reply"]
     WITHOUT = "allowed"
-    THERE = [STORE]
 
     def words(self, *more: str) -> "list[str]":
         return [sys.executable, NE, "selftest", "--" + self.SERVICE, "http://127.0.0.1:%d" % self.service_port, "--turns", "60", "--program",

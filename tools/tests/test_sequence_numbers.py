@@ -4,8 +4,8 @@ import xml.etree.ElementTree
 
 from new_enemy_tools.importing import causes
 from new_enemy_tools.importing.sequence_numbers import Numbers
-from tests.test_core import RULES, check, content, rel, write
 from tests.test_printed_blocks import PrintedCase
+from tests.test_trace_maker import RULES, check, content, rel, write
 from tests.test_unaudited import CONTEXTUAL, Unaudited
 
 LOST = "lost in gaps 1: %s" % causes.NO_LINE

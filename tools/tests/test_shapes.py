@@ -6,18 +6,18 @@ from unittest import mock
 from new_enemy_tools.importing import block, located
 from new_enemy_tools.importing.block import Reader
 from new_enemy_tools.importing.events import read_events
+from new_enemy_tools.importing.line_shapes import shape_of
 from new_enemy_tools.importing.neutral import CHECK, USUAL
 from new_enemy_tools.importing.openfga import OpenFgaLog
+from new_enemy_tools.importing.packed_blocks import Indexer
 from new_enemy_tools.importing.refusals import Refusals
-from new_enemy_tools.importing.packed import Indexer
-from new_enemy_tools.importing.shapes import shape_of
 from new_enemy_tools.importing.spicedb import SpiceDbLog
 from tests.test_blocks import BlockCase
-from tests.test_core import RULES, check, content, rel, write
 from tests.test_going_on import between
 from tests.test_round_trips import (OpenFga, OpenFgaBetween, OpenFgaWithConditions, OpenFgaWithWildcards, SpiceDb, SpiceDbWithWildcards,
                                     time_text, token_text)
 from tests.test_spicedb import update, watch
+from tests.test_trace_maker import RULES, check, content, rel, write
 
 IDS = ["1", "2", "d 3", "~7", "~x", "é", "a@b", "a:b", "*", "x" * 129, 'q"', "", "\n", "n_1"]
 LABELS = ["v1", "v 2", "~1", "", "x" * 129, "é", None]

@@ -18,21 +18,21 @@ from new_enemy_tools.recording.beside import Word
 from new_enemy_tools.recording.core import Core, Now
 from new_enemy_tools.recording.lines import gap_line
 from new_enemy_tools.recording.log_files import LogFiles
-from new_enemy_tools.recording.messages import Beat, Teller, packed
+from new_enemy_tools.recording.messages import Beat, Teller, Writes, packed
 from new_enemy_tools.recording.openfga import Changes, OpenFga
 from new_enemy_tools.recording.openfga_feed import OpenFgaFeed
 from new_enemy_tools.recording.overlap import Change, Overlap, Read
 from new_enemy_tools.recording.places import Places
 from new_enemy_tools.recording.reader import Exchange, Reader
-from new_enemy_tools.recording.relay import Relay
 from new_enemy_tools.recording.spicedb import Feed, SpiceDb
-from tests.simulated_recorder import run_whole
+from tests.simulated_recorder import Whole, run_whole
 from tests.simulated_spicedb import run as run_spicedb
-from tests.simulated_spicedb import run_either
+from tests.simulated_spicedb import run_either, run_killed
 from tests.simulation import STEP, TUPLES, Shape, run
 from tests.support import TOOLS, Case
 
 SEEDS, WHOLE = 1000, 600
+KILLED = 200
 
 
 def shape_of(seed, **values):
@@ -40,6 +40,11 @@ def shape_of(seed, **values):
     for name, value in values.items():
         setattr(made, name, value)
     return made
+
+
+def unshown(seed):
+    """Many requests of which all writes pass the recorder, some of which the feed does not show."""
+    return shape_of(seed, ours=1, requests=40, length=150, faults=0.2, writes=0.3, hold=60 * STEP, race=0, delay=0)
 
 
 class Holds(Case):
@@ -73,7 +78,7 @@ class Holds(Case):
             self.assertEqual(run(seed)[1].faults(), [], "seed %d" % seed)
 
     def test_the_command(self):
-        for words in ([], ["--joined"], ["--days"], ["--whole"], ["--spicedb"], ["--own"]):
+        for words in ([], ["--joined"], ["--days"], ["--whole"], ["--spicedb"], ["--killed"], ["--own"]):
             run = subprocess.run([sys.executable, os.path.join(TOOLS, "dev", "simulate"), "--seeds", "20", *words], capture_output=True, text=True,
                                  timeout=300)
             self.assertEqual((run.returncode, run.stdout.splitlines()[-1]), (0, "20 passed, 0 failed"), run.stderr)
@@ -159,12 +164,12 @@ class Finds(Case):
 class OfTheWhole(Case):
     """The whole recorder, which passes bytes of HTTP, is killed, ended and begun again; and each cure that is taken out is missed by some seed."""
 
-    def assert_found(self, wanted, *patches, seeds=range(WHOLE)):
+    def assert_found(self, wanted, *patches, seeds=range(WHOLE), has_troubles=None):
         with ExitStack() as stack:
             for one in patches:
                 stack.enter_context(one)
             for seed in seeds:
-                if any(wanted in fault for fault in run_whole(seed)[1].faults()):
+                if any(wanted in fault for fault in run_whole(seed, None, has_troubles)[1].faults()):
                     return
         self.fail(wanted)
 
@@ -175,6 +180,13 @@ class OfTheWhole(Case):
             self.assertEqual(verdict.faults(), [], "seed %d" % seed)
             recorded, lost = recorded + len(verdict.entries), lost + verdict.lost
         self.assertGreater(2 * recorded, lost)
+
+    def test_what_the_feed_never_shows_and_who_knows_of_it_is_killed(self):
+        """Right replies that rest on a write are called wrong where its keeper alone knew of it; not where the log does."""
+        for seed in range(60):
+            self.assertEqual(run_whole(seed, unshown(seed), True)[1].faults(), [], "seed %d" % seed)
+        with mock.patch.object(OpenFga, "_take_unshown", lambda *words: None):
+            self.assertIn("a right reply is called wrong", {fault.split(" (check")[0] for fault in run_whole(215, unshown(215), True)[1].faults()})
 
     def test_a_check_that_begins_when_its_head_comes(self):
         kept = Reader._request
@@ -270,7 +282,9 @@ class OfTheWhole(Case):
 
     def test_a_proxy_that_is_killed_and_nothing_tells(self):
         """While its keeper does not keep up."""
-        self.assert_found("a check is neither in the log nor in a gap", mock.patch.object(Core, "_lose_untold", lambda core: None), seeds=(2229,))
+        held = [mock.patch.object(Whole, name, Whole._hold_up) for name in ("_die_soon", "_kill_waiting")]
+        self.assert_found("a check is neither in the log nor in a gap", mock.patch.object(Core, "_lose_untold", lambda core: None), *held,
+                          seeds=(5956,), has_troubles=True)
 
     def test_a_full_file_that_looks_like_the_end(self):
         """Where the keeper is killed before it has the next."""
@@ -280,7 +294,7 @@ class OfTheWhole(Case):
 
     def test_a_proxy_without_the_folder_that_leaves_no_word(self):
         """And is killed with its keeper."""
-        self.assert_found("a client was refused, and no gap says so", mock.patch.object(Word, "leave", lambda word, start: None), seeds=(2757,))
+        self.assert_found("a client was refused, and no gap says so", mock.patch.object(Word, "leave", lambda word, start: None), seeds=(5195,))
 
     def test_a_line_that_was_cut_and_stays(self):
         """The file can't be read, or has other lines than its end tells."""
@@ -347,6 +361,22 @@ class OfSpiceDb(Case):
             recorded, lost = recorded + len(verdict.entries), lost + verdict.lost
         self.assertGreater(recorded, 5 * lost)
 
+    def test_a_keeper_that_is_killed(self):
+        """Also what the proxy tells the next of the last writes, and that Watch may begin with the last change that the log has."""
+        recorded = 0
+        for seed in range(KILLED):
+            _, verdict = run_killed(seed)
+            self.assertEqual(verdict.faults(), [], "seed %d" % seed)
+            recorded += len(verdict.entries)
+        self.assertGreater(recorded, 500)
+        values = {"ours": 1, "faults": 0.6, "requests": 25, "length": 60}
+        cures = ((29, mock.patch.object(Writes, "keep", lambda *words: None), "a check passes without a stale answer"),
+                 (8, mock.patch.object(Feed, "_is_old", _is_old_by_number), "the commits come twice, or have another order than the service's"))
+        for seed, taken_out, wanted in cures:
+            shape = shape_of(seed, **values) if seed == 29 else shape_of(seed)
+            with taken_out:
+                self.assertIn(wanted, {fault.split(" (check")[0] for fault in run_killed(seed, shape)[1].faults()})
+
     def test_what_was_known_before_a_check_that_is_forgotten(self):
         kept = SpiceDb._place
         with mock.patch.object(SpiceDb, "_place", lambda *words: kept(*words[:4], 0, *words[5:])):
@@ -387,6 +417,11 @@ class OfSpiceDb(Case):
     def test_checks_that_waited_when_the_rules_became_unsure(self):
         with mock.patch.object(Core, "lose_entries", lambda *words: None):
             self.assert_found("the log has another state at a snapshot than the service", models=True, faults=0)
+
+
+def _is_old_by_number(feed, revision, response):
+    """As where nothing is known of transactions."""
+    return revision.snapshot is None and (revision.number or 0) <= feed.number
 
 
 def _at_once(self, message, began_before, core):

@@ -105,6 +105,7 @@ class Refusals(Case):
                watch(6, update("user:a", "view")), watch(7, update("user:a", operation="MOVE")),
                watch(8, schemaUpdated=True), {"result": {"updates": []}}, watch("x1", update("user:b")),
                watch(9, {"operation": "OPERATION_TOUCH"}), {"error": {"code": 5}}, watch(10, isCheckpoint=True),
+               watch(10), watch(10, optionalTransactionMetadata={"by": "a"}),
                *({"result": {"updates": one, "changesThrough": {"token": token_text(11)}}} for one in (7, {}, "", False))]
         self.assertEqual(self.refusals(log), [
             "log:2: relationship that the schema does not take: doc:1#viewer@user:*", "log:3: caveat: doc:1#viewer@user:a",
@@ -116,7 +117,8 @@ class Refusals(Case):
             "log:9: `changesThrough` has no token whose revision is a number or a snapshot of PostgreSQL",
             "log:10: `changesThrough` has no token whose revision is a number or a snapshot of PostgreSQL",
             "log:11: a relationship has no relation",
-            *("log:%d: `updates` is no list" % line for line in range(14, 18))])
+            "log:14: a response of Watch has no `updates`, and is no checkpoint",
+            *("log:%d: `updates` is no list" % line for line in range(16, 20))])
 
     def test_checks_by_line(self):
         log = [watch(5, update("user:a")), check(subject="group:g#member"), check(subject="user:*"), check(permission="edit"),

@@ -17,7 +17,7 @@ from new_enemy_tools.windowing.beginning import Keep, begun
 from new_enemy_tools.windowing.carries import carry_of, declaration
 from new_enemy_tools.windowing.state import NOTHING, State
 from tests.support import TOOLS, Case
-from tests.test_core import RULES, check, content, rel, write
+from tests.test_trace_maker import RULES, check, content, rel, write
 from tests.test_unaudited import BEGUN
 
 ROUNDS = 4000
@@ -306,7 +306,7 @@ class Marks(Case):
             "kind|goal|snapshot|reply|zookie|version|part|again|coverage|strata|ids|steps"))
         for path in glob.glob(os.path.join(TOOLS, "new_enemy_tools", "**", "*.py"), recursive=True):
             name = os.path.relpath(path, os.path.join(TOOLS, "new_enemy_tools"))
-            if name.startswith(("recording", "importing")) or name in ("trace_lines.py", "windowing/carries.py", "parting/placing.py", "pieces.py",
+            if name.startswith(("recording", "importing")) or name in ("trace_lines.py", "windowing/carries.py", "parting/placing.py", "trace_pieces.py",
                                                                        "monitoring/holding.py"):
                 continue
             with open(path, encoding="utf-8") as file:

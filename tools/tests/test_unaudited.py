@@ -12,7 +12,7 @@ from new_enemy_tools.ids import locked
 from new_enemy_tools.importing import causes
 from new_enemy_tools.parting.blocks import BLOCK
 from tests.support import TOOLS, Case
-from tests.test_core import RULES, check, content, rel, write
+from tests.test_trace_maker import RULES, check, content, rel, write
 
 BEGUN = {"event": "gap", "from": None, "to": "2024-01-01T00:00:00Z", "reason": "the log begins", "time": "2024-01-01T00:00:00Z"}
 LOST = {"event": "gap", "from": "2024-01-01T00:00:02Z", "to": "2024-01-01T00:00:03Z", "reason": "the recorder did not follow", "lost": 40,

@@ -1,5 +1,5 @@
 """Tuples for every user of a type: what is written, what is told, and what is refused."""
-from tests.test_core import CoreCase, check, rel, write
+from tests.test_trace_maker import CoreCase, check, rel, write
 
 RULES = {"event": "rules", "namespaces": [
     {"name": "doc", "relations": [{"name": "viewer"}, {"name": "banned"}, {"name": "parent"}, {"name": "reader", "rewrite": {

@@ -4,13 +4,13 @@ import os
 import unittest.mock
 from random import Random
 
+from new_enemy_tools.faults import WindowFault
 from new_enemy_tools.findings import FORMS
 from new_enemy_tools.trace_lines import OtherForm
 from new_enemy_tools.windowing import window_effects
 from new_enemy_tools.windowing.audited_window import NOTHING, audited
 from new_enemy_tools.windowing.beginning import Keep
 from new_enemy_tools.windowing.own_lines import Own
-from new_enemy_tools.windowing.window_faults import WindowFault
 from tests.random_traces import PlainIds, RandomInput
 from tests.random_windows import RandomHistory, cut_at_commits
 from tests.test_windows import WindowCase

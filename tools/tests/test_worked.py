@@ -5,7 +5,7 @@ import sys
 
 from tests.support import TOP, Case
 from worked.cases import CaseFault, read_case, read_cases
-from worked.pieces import Repeated, given
+from worked.made_bytes import Repeated, given
 
 TWO_RUNS = r"""$ new_enemy audit t "der Weg" "" "\u007f" doc:a#"b"
 status 1

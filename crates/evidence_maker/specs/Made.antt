@@ -1,5 +1,5 @@
 -- What is made for an entry.
-use Rattle.std.specs.Prelude.{◌≡◌, Some, [], ◌∷◌, ℕ, ◌≤◌, ◌<◌, ◌^◌, List, ◌⊎◌, Contains}
+use Rattle.std.specs.Prelude.{Bool, true, false, ◌≡◌, Some, [], ◌∷◌, ℕ, ◌≤◌, ◌<◌, ◌^◌, List, ◌⊎◌, Contains}
 use Rattle.tuple_text.specs.Tuples.{FactValue}
 use Rattle.namespaces.specs.Lookup.{rule_at}
 use Rattle.version_chains.specs.Commits.{store_at}
@@ -30,6 +30,11 @@ Fits line steps = (fact_count steps ≤ 100000) × (record_length line steps ≤
 -- the steps settle the entry, and its record may hold them
 abbrev pub IsRecord : TraceValue → EntryValue → List StepValue → Type 0
 IsRecord t e steps = Settles t e steps × Fits e.line steps
+
+-- that a fact holds, or does not, said in one step
+abbrev pub alone : Bool → FactValue → List StepValue
+alone true f = yes_step f ∷ []
+alone false f = no_step (f ∷ []) ∷ []
 
 -- from nothing it is accepted that the goal holds, or that it does not
 abbrev pub IsOneStep : TraceValue → EntryValue → Type 0

@@ -1,6 +1,6 @@
 //! Making evidence for a decision.
 
-ghost use Rattle.std.specs.Prelude.{◌≡◌, ◌<◌, ◌≤◌, ◌↔◌, ◌^◌, ◌⊎◌, [], ◌∷◌, IsTrue, IfOk, IfSome, Err, None, Some, length, slice_get};
+ghost use Rattle.std.specs.Prelude.{Bool, false, ◌≡◌, ◌<◌, ◌≤◌, ◌↔◌, ◌^◌, ◌⊎◌, [], ◌∷◌, IsTrue, IfOk, IfSome, Err, None, Some, length, slice_get};
 ghost use Rattle.tuple_text.specs.FactRefs.{fact_value};
 ghost use Rattle.tuple_text.specs.Grammar.{IsFact};
 ghost use Rattle.namespaces.specs.Lookup.{rule_at};
@@ -8,12 +8,12 @@ ghost use Rattle.version_chains.specs.Commits.{store_at};
 ghost use Rattle.trace_lines.specs.EntryViews.{entry_value};
 ghost use Rattle.trace_lines.specs.Values.{EntryValue};
 ghost use Rattle.evidence_check.specs.Reading.{fact_count};
-ghost use Rattle.evidence_check.specs.Steps.{yes_step, no_step, step_values};
+ghost use Rattle.evidence_check.specs.Steps.{step_values};
 ghost use Rattle.evidence_check.specs.declared.records.TheConstants.{MAX_FACTS};
 ghost use Rattle.goal_cone.specs.Bounds.{IsOutgrown};
 ghost use Rattle.goal_cone.specs.declared.premises.TheConstants.{MAX_LINKS};
 ghost use Rattle.record_text.specs.Record.{record_length};
-ghost use Rattle.evidence_maker.specs.Made.{Settles, Fits, IsRecord, IsOneStep, IsTooLong, IsOutOfReach, IsMadeFor};
+ghost use Rattle.evidence_maker.specs.Made.{alone, Settles, Fits, IsRecord, IsOneStep, IsTooLong, IsOutOfReach, IsMadeFor};
 
 use crate::fault::MakeFault;
 use crate::like::{Found, made_like};
@@ -77,13 +77,36 @@ fn has_text(line: u64, goal: FactRef<'_>)
     let _ = goal.user();
 }
 
-/// The goal holds, said in one step.
-fn yes_alone(alloc: Global, entry: &Entry<'_>) -> Result<Steps, AllocError>
-    ensures { IfOk result (λ v. step_values v.items ≡ yes_step (fact_value entry.now.goal) ∷ []) }
+/// That the goal holds, or does not, said in one step.
+fn alone(alloc: Global, entry: &Entry<'_>, holds: bool) -> Result<Steps, AllocError>
+    ensures { IfOk result (λ v. step_values v.items ≡ alone holds (fact_value entry.now.goal)) }
 {
+    let goal = entry.goal.to_fact(alloc)?;
     let mut steps = Vec::new(alloc);
-    steps.push(Step::Yes(entry.goal.to_fact(alloc)?))?;
+    if holds {
+        steps.push(Step::Yes(goal))?;
+        return Ok(steps);
+    }
+    let mut facts = Vec::new(alloc);
+    facts.push(goal)?;
+    steps.push(Step::No(facts))?;
     Ok(steps)
+}
+
+/// Evidence of one step, which says that the goal holds or that it does not.
+fn made_alone(
+    alloc: Global,
+    asked: &mut AskedRules<'_>,
+    entry: &Entry<'_>,
+    holds: bool,
+) -> Result<Option<Made>, AllocError>
+    ensures asked { asked.new ≡ asked.old }
+    ensures made { IfOk result (λ o. IfSome o (IsMadeFor asked.old (entry_value entry.now))) }
+    ensures none { IfOk result (λ o. o ≡ None
+        → ¬ IsRecord asked.old (entry_value entry.now) (alone holds (fact_value entry.now.goal))) }
+{
+    let steps = alone(alloc, entry, holds)?;
+    made_of(asked, entry, steps)
 }
 
 /// Steps that say what was settled, in the same order.
@@ -142,15 +165,41 @@ fn order_of(
     Search::new(alloc, snapshot, rules, user).order_of(cone)
 }
 
-/// The goal does not hold, said in one step.
-fn no_alone(alloc: Global, entry: &Entry<'_>) -> Result<Steps, AllocError>
-    ensures { IfOk result (λ v. step_values v.items ≡ no_step (fact_value entry.now.goal ∷ []) ∷ []) }
+/// Whether evidence is there that supports the reply.
+fn is_supported(made: &Option<Made>) -> bool
+    ensures { made.now ≡ None → result ≡ false }
 {
-    let mut facts = Vec::new(alloc);
-    facts.push(entry.goal.to_fact(alloc)?)?;
-    let mut steps = Vec::new(alloc);
-    steps.push(Step::No(facts))?;
-    Ok(steps)
+    match made {
+        Some(made) => made.judged == Judged::Supported,
+        None => false,
+    }
+}
+
+/// Evidence of one step, or what is made soon. One step against the reply is tried last: where there is evidence for
+/// the reply, there is none against it.
+fn made_shortly(
+    alloc: Global,
+    asked: &mut AskedRules<'_>,
+    rules: &mut WideRules,
+    entry: &Entry<'_>,
+    found: Option<Found<'_>>,
+) -> Result<Option<Made>, AllocError>
+    ensures asked { asked.new ≡ asked.old }
+    ensures made { IfOk result (λ o. IfSome o (IsMadeFor asked.old (entry_value entry.now))) }
+    ensures none { IfOk result (λ o. o ≡ None → (holds : Bool)
+        → ¬ IsRecord asked.old (entry_value entry.now) (alone holds (fact_value entry.now.goal))) }
+{
+    if let Some(made) = made_alone(alloc, asked, entry, entry.reply)? {
+        return Ok(Some(made));
+    }
+    let soon = made_soon(alloc, asked, rules, entry, found)?;
+    if is_supported(&soon) {
+        return Ok(soon);
+    }
+    match made_alone(alloc, asked, entry, !entry.reply)? {
+        Some(made) => Ok(Some(made)),
+        None => Ok(soon),
+    }
 }
 
 /// Evidence for an entry. Where one step is not enough, what was found for another one is tried before a search.
@@ -170,15 +219,7 @@ fn made_for<'t>(
     ensures made { IfOk result (IsMadeFor asked.old (entry_value entry.now)) }
     ensures gave_up { result ≡ Err MakeFault.GaveUp → IsOutOfReach asked.old (entry_value entry.now) }
 {
-    let yes = yes_alone(alloc, entry)?;
-    if let Some(made) = made_of(asked, entry, yes)? {
-        return Ok(made);
-    }
-    let no = no_alone(alloc, entry)?;
-    if let Some(made) = made_of(asked, entry, no)? {
-        return Ok(made);
-    }
-    if let Some(made) = made_soon(alloc, asked, rules, entry, found)? {
+    if let Some(made) = made_shortly(alloc, asked, rules, entry, found)? {
         return Ok(made);
     }
     let snapshot = asked.trace().timeline().at(entry.snapshot);

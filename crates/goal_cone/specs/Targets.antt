@@ -21,6 +21,11 @@ pub record AreRead (rules : List ℕ → Option Rule) (names ks : List (List ℕ
 abbrev pub Matters : Snapshot → SetValue → SetValue → List ℕ → Type 0
 Matters s tupleset g c = IsStored (tuples_in s) tupleset (Set g) × (¬ (rules_in s g.namespace c ≡ None))
 
+-- of the namespace of a number nothing matters that is stored in a tupleset
+abbrev pub IsUnwanted : Snapshot → SetValue → List (List ℕ) → ℕ → Type 0
+IsUnwanted s tupleset names n =
+    (g : SetValue) (c : List ℕ) → IsNumbered s g n → Contains names c → ¬ Matters s tupleset g c
+
 -- the numbers up to n of the namespaces of which something matters, and maybe others
 abbrev pub AreWanted : Snapshot → SetValue → List (List ℕ) → ℕ → Numbers → Type 0
 AreWanted s tupleset names n wanted =

@@ -2,18 +2,14 @@
 
 ghost use Rattle.std.specs.Prelude.{◌≡◌, ◌<◌, ◌≤◌, ◌++◌, ◌^◌, ℕ, List, None, Some, Contains, IfOk, IfSome, IsSomeAnd, OnOk, true, false, length, map, option_map, slice_get, string_bytes};
 ghost use Rattle.tuple_text.specs.Refs.{set_value};
-ghost use Rattle.tuple_text.specs.Sets.{SetValue};
-ghost use Rattle.tuple_text.specs.declared.users.User.TheVariants.{Set};
 ghost use Rattle.namespaces.specs.InForce.{names_in_force};
 ghost use Rattle.namespaces.specs.Lookup.{rule_at};
 ghost use Rattle.rewrites.specs.Parts.{computed_names};
-ghost use Rattle.strata.specs.Meaning.{with_relation, IsStored};
-ghost use Rattle.snapshots.specs.Leading.{IsNumbered};
-ghost use Rattle.snapshots.specs.Snapshots.{rules_in, tuples_in};
+ghost use Rattle.strata.specs.Meaning.{with_relation};
 ghost use Rattle.judgement.specs.StoredIn.{HaveStored};
 ghost use Rattle.namespaces.specs.Numbers.{Has};
 ghost use Rattle.wide_rules.specs.Declaring.{DeclaresNone, HaveDeclaring};
-ghost use Rattle.goal_cone.specs.Targets.{AreObjects, AreRead, AreTargets, AreWanted, targets_under};
+ghost use Rattle.goal_cone.specs.Targets.{AreObjects, AreRead, AreTargets, AreWanted, IsUnwanted, targets_under};
 
 use judgement::{is_absent, stored_in, under};
 use marks::MarkedSet;
@@ -157,10 +153,8 @@ fn is_wanted(
 ) -> Result<bool, AllocError>
     requires { IfSome stored (HaveStored snapshot.now (set_value tupleset.set)) }
     ensures { HaveDeclaring snapshot.now.timeline.declarations (computed_names through.now) declaring
-        → IfOk result (λ r. r ≡ false → (g : SetValue) (c : List ℕ)
-        → IsStored (tuples_in snapshot.now) (set_value tupleset.entry.set) (Set g)
-        → IsNumbered snapshot.now g number → Contains (computed_names through.now) c
-        → rules_in snapshot.now g.namespace c ≡ None) }
+        → IfOk result (λ r. r ≡ false
+        → IsUnwanted snapshot.now (set_value tupleset.entry.set) (computed_names through.now) number) }
 {
     snapshot.fits();
     if !declaring.has(number)

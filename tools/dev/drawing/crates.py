@@ -5,7 +5,7 @@ import re
 from typing import Dict, List, Set, Tuple
 
 from drawing.ranks import Arrows, Node, placed, reduced
-from drawing.shapes import Picture
+from drawing.svg import Picture
 
 HEADLINE = ("findings", "right_and_fresh_without_findings")
 

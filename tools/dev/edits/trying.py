@@ -4,8 +4,8 @@ import shutil
 import subprocess
 
 from edits.built import command
-from edits.keeping import PARTS, Kept
-from edits.texts import apply, edit_of, groups_of, modules_of
+from edits.edit_texts import apply, edit_of, groups_of, modules_of
+from edits.refused_edits import PARTS, Kept
 from edits.verdicts import NAMED, REFUSED, UNREAD, UNTOLD, is_unknown, verdicts
 
 

@@ -1,7 +1,7 @@
 """What a check with several edits says of each."""
 import re
 
-from edits.texts import modules_of
+from edits.edit_texts import modules_of
 
 REFUSED, PROVED, UNREAD, UNTOLD = "refused", "NOT REFUSED", "BAD EDIT", "not told"
 # A file of proofs names what the edit took away, and nothing else refuses it.

@@ -2,9 +2,9 @@
 import os
 from typing import Iterator, NamedTuple
 
-from hostile.answers import Answer
+from hostile.program_runs import Answer
 from worked.cases import read_cases
-from worked.pieces import given
+from worked.made_bytes import given
 
 TOP = os.path.realpath(os.path.join(os.path.dirname(__file__), "..", "..", ".."))
 EXAMPLES = ("one_proved_check", "each_finding")

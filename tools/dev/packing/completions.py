@@ -1,7 +1,7 @@
 """Completions of a command for bash, zsh and fish, of what it takes."""
 from typing import Iterator, NamedTuple
 
-from packing.shapes import Shape
+from packing.command_shapes import Shape
 
 MADE = "# Completion of %s, made by tools/dev/package of what the command takes."
 

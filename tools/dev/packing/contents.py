@@ -3,12 +3,12 @@ import os
 import re
 
 from packing import completions, man
+from packing.archives import gzipped
+from packing.command_shapes import Shape, program_shape, tools_shape
 from packing.proof import proved_text, sums
-from packing.shapes import Shape, program_shape, tools_shape
 from packing.sources import Commit, File, written
-from packing.writing import gzipped
 
-# What of tools/ a user runs. The names of before tools/ne are for those who had them.
+# What of tools/ a user runs.
 TOOLS = re.compile(r"tools/((?:ne|record)|(?:new_enemy_tools|parts\.d)/.+)")
 DOCUMENTS = re.compile(r"(?:README|CHANGELOG|SECURITY|CONTRIBUTING|ARCHITECTURE)\.md|LICENSE|docs/.+|examples/.+")
 VERSION = re.compile(rb'^VERSION = "([^"]+)"$', re.MULTILINE)

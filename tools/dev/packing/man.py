@@ -3,7 +3,7 @@ import re
 from datetime import datetime, timezone
 from typing import Iterator
 
-from packing.shapes import Shape
+from packing.command_shapes import Shape
 
 STATUSES = (("0", "clean, or done"), ("1", "dirty"), ("2", "input refused"), ("3", "usage"), ("4", "out of memory"), ("5", "a device failed"),
             ("6", "nothing was found, and not everything was looked at"))

@@ -3,7 +3,7 @@ import hashlib
 from datetime import datetime, timezone
 from typing import Optional
 
-from packing.faults import PackageFault
+from packing.package_faults import PackageFault
 from packing.sources import Commit, File, words_of
 
 GATE = "dist/GATE"

@@ -5,7 +5,7 @@ import subprocess
 import tarfile
 from typing import NamedTuple, Optional
 
-from packing.faults import PackageFault
+from packing.package_faults import PackageFault
 
 
 class File(NamedTuple):

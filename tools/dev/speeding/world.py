@@ -4,6 +4,7 @@ from typing import Dict, Iterator, List, NamedTuple, Optional, Set, Tuple, Union
 
 # Type, id, relation, and the user's type, id and relation.
 Given = Tuple[str, str, str, str, str, Optional[str]]
+Userset = Tuple[str, str, Optional[str]]
 RELATIONS = ("viewer", "editor", "owner")
 # Of a hundred lines so many are writes, and content checks; and of checks so many name a version.
 WRITES, CONTENTS, VERSIONED = 10, 2, 25
@@ -42,9 +43,9 @@ class World:
         self.random, self.size = Random(seed), size
         self.at = 0
         # the tuples of each userset, by its type, id and relation
-        self.stored: Dict[Tuple[str, str, str], Set[Given]] = {}
+        self.stored: Dict[Userset, Set[Given]] = {}
         # those of them that name a group, in order
-        self.grouped: Dict[Tuple[str, str, str], Dict[Given, None]] = {}
+        self.grouped: Dict[Userset, Dict[Given, None]] = {}
         self.listed: List[Given] = []
         self.versions: List[Tuple[str, str, str, int]] = []
 
@@ -98,7 +99,7 @@ class World:
         return made
 
     def _holds(self, thing: str, relation: str, user: str) -> bool:
-        waiting = [("document", thing, one) for one in RELATIONS[RELATIONS.index(relation):]]
+        waiting: List[Userset] = [("document", thing, one) for one in RELATIONS[RELATIONS.index(relation):]]
         seen = set(waiting)
         for userset in waiting:
             if (*userset, "user", user, None) in self.stored.get(userset, ()):

@@ -33,7 +33,7 @@ import os
 import re
 from typing import Dict, List, NamedTuple, Optional, Tuple
 
-from worked.pieces import QUOTED, Made, Piece, given, piece_of, unquoted
+from worked.made_bytes import QUOTED, Made, Piece, given, piece_of, unquoted
 
 ROWS = os.path.join(os.path.dirname(os.path.realpath(__file__)), "..", "..", "..", "rows")
 WORD = r'(?:%s|[^ "][^ ]*)' % QUOTED

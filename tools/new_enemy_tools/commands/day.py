@@ -23,27 +23,28 @@ import sys
 from argparse import Namespace
 from typing import Callable, NamedTuple, Optional
 
-from new_enemy_tools.collecting import held_off
 from new_enemy_tools.commands import import_logs
-from new_enemy_tools.commands.running import Parser, add_allowing, add_program, add_skew
+from new_enemy_tools.commands.running import Parser, add_allowing, add_program, add_skew, refuse_twice
 from new_enemy_tools.commands.window import FAULTS, add_keeping, keep_of, places, refuse_usage, status_of
 from new_enemy_tools.coverage import Coverage
+from new_enemy_tools.faults import WindowFault
 from new_enemy_tools.files import write_whole
+from new_enemy_tools.garbage_collection import held_off
 from new_enemy_tools.ids import Ids
 from new_enemy_tools.importing.chained import end_of, head_of
 from new_enemy_tools.importing.going_on import cut, read_left, write_left
-from new_enemy_tools.importing.packed import Version
+from new_enemy_tools.importing.packed_blocks import Version
 from new_enemy_tools.labels import Labels, labels_of
 from new_enemy_tools.progress import Progress
 from new_enemy_tools.shown import tell as tell_line
+from new_enemy_tools.trace_pieces import digest_of
 from new_enemy_tools.windowing.audited_window import Audited, audited
 from new_enemy_tools.windowing.beginning import begun, version_of
-from new_enemy_tools.windowing.days import COMPARED, INDEX, JOINED_LOG, MAIL, PAGE, Days, Summary, compared, digest_of
-from new_enemy_tools.windowing.keeping import keep_trace
+from new_enemy_tools.windowing.days import COMPARED, INDEX, JOINED_LOG, MAIL, PAGE, Days, Summary, compared
+from new_enemy_tools.windowing.kept_traces import keep_trace
 from new_enemy_tools.windowing.own_lines import Own
 from new_enemy_tools.windowing.state import CARRY, NOTHING, State, read_state, write_beside
 from new_enemy_tools.windowing.window_effects import texts_of
-from new_enemy_tools.windowing.window_faults import WindowFault
 
 # The worst of two runs first.
 STATUSES = (2, 1, 6, 0)
@@ -93,8 +94,8 @@ def given_of(words: list[str]) -> Namespace:
         parser.error("--skew is below 0")
     if given.skew != parser.get_default("skew") and not given.joins:
         parser.error("--skew before FOLDER is of logs that are joined; give their folders")
-    if len(set(map(os.path.realpath, given.logs))) < len(given.logs) and given.joins:
-        parser.error("one LOG stands twice")
+    if given.joins:
+        refuse_twice(parser, given.logs)
     given.names, given.held_back, given.said = [os.path.basename(os.path.normpath(log)) for log in given.logs], 0, []
     return given
 
@@ -144,7 +145,7 @@ def go_on(days: Days, given: Namespace) -> import_logs.Before:
         shutil.copyfile(ids, days.work("ids.jsonl"))
     if path is None and days.before("import.txt") is not None:
         raise WindowFault("the file `left` of day %d is not there, and without it nothing goes on from that day" % (days.last or 0))
-    if path is not None and days.last is not None and days.summary(days.last).left not in ("", digest_of([path])):
+    if path is not None and days.last is not None and days.summary(days.last).left not in ("", digest_of(path)):
         raise WindowFault("%s is another than day %d left: it was altered, or is of another day" % (path, days.last))
     table = Ids(days.work("ids.jsonl"))
     left = None if path is None else cut(read_left(path), state.base, given.keep_versions, carrying(state, table, given.keep_versions))
@@ -206,10 +207,10 @@ def made(days: Days, given: Namespace, digest: str, progress: Progress) -> int:
     own, found = audited_day(days, given, before, progress)
     if found.entries < given.at_least:
         raise WindowFault("the day has %d checks and content checks, and at least %d are wanted (--at-least)" % (found.entries, given.at_least))
-    return kept(days, given, own, found, before.ids if given.service != "trace" else None, digest)
+    return keep_day(days, given, own, found, before.ids if given.service != "trace" else None, digest)
 
 
-def kept(days: Days, given: Namespace, own: Own, found: Audited, ids: Optional[Ids], digest: str) -> int:
+def keep_day(days: Days, given: Namespace, own: Own, found: Audited, ids: Optional[Ids], digest: str) -> int:
     """Makes a day of what was found, in the folder that is worked in, where its carry is; its number."""
     write_beside(days.work(), found.new)
     found = found._replace(report=found.report._replace(held_back=given.held_back))
@@ -223,7 +224,7 @@ def kept(days: Days, given: Namespace, own: Own, found: Audited, ids: Optional[I
     write_whole(days.work("summary.json"), [json.dumps(Summary(
         given.names, digest, report.status(given.allow_unaudited), report.entries, len(report.findings),
         sum(report.coverage.not_audited.values()), report.held, report.verdict, report.coverage.row(), labels._asdict(), given.held_back,
-        digest_of([days.work("left")]) if os.path.exists(days.work("left")) else "")._asdict())])
+        digest_of(days.work("left")) if os.path.exists(days.work("left")) else "")._asdict())])
     if given.keep_days:
         keep_trace(days.work(), found, own)
     if os.path.exists(days.work("trace")):
@@ -288,7 +289,7 @@ def run(days: Days, given: Namespace, progress: Progress) -> int:
 def taken(days: Days, given: Namespace, progress: Progress) -> int:
     days.tidy(given.keep_days)
     leave_out(days, given)
-    digest, last, status = digest_of(given.logs), days.last, 0
+    digest, last, status = digest_of(*given.logs), days.last, 0
     if last is not None and not days.is_told(last):
         write_index(days, given.html)
         sys.stderr.write("day: day %d was audited by a run that was broken off; its report:\n" % last)

@@ -4,6 +4,7 @@ import os
 from typing import NamedTuple, Optional
 
 from new_enemy_tools.commands.join import log_of, names_of, read_log, write
+from new_enemy_tools.faults import WindowFault
 from new_enemy_tools.files import write_whole
 from new_enemy_tools.importing.chained import end_of
 from new_enemy_tools.importing.going_on import read_left
@@ -11,7 +12,6 @@ from new_enemy_tools.recording.days_joined import Before, Waiting, join_day, kep
 from new_enemy_tools.recording.log_files import LogFiles
 from new_enemy_tools.recording.sketches import JOINED, Given
 from new_enemy_tools.windowing.days import JOIN, JOINED_LOG, Days
-from new_enemy_tools.windowing.window_faults import WindowFault
 
 
 class Joined(NamedTuple):

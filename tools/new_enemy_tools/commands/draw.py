@@ -10,7 +10,7 @@ from new_enemy_tools.files import read_ids, traced
 from new_enemy_tools.graph import Drawing, svg
 from new_enemy_tools.names import Names
 from new_enemy_tools.progress import Progress
-from new_enemy_tools.windowing.keeping import kept_day
+from new_enemy_tools.windowing.kept_traces import kept_day
 
 
 def main(words: list[str]) -> int:

@@ -20,7 +20,7 @@ from new_enemy_tools.not_a_trace import hints
 from new_enemy_tools.progress import Progress
 from new_enemy_tools.shown import tell
 from new_enemy_tools.trace import Fault, Trace
-from new_enemy_tools.windowing.keeping import kept_day
+from new_enemy_tools.windowing.kept_traces import kept_day
 
 
 def refusal(part: bytes, evidence: Optional[bytes]) -> int:

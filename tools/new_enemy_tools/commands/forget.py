@@ -8,9 +8,9 @@ import sys
 
 from new_enemy_tools.commands.day import write_index
 from new_enemy_tools.commands.running import Parser
+from new_enemy_tools.faults import WindowFault
 from new_enemy_tools.shown import tell
 from new_enemy_tools.windowing.days import Days
-from new_enemy_tools.windowing.window_faults import WindowFault
 
 
 def main(words: list[str]) -> int:

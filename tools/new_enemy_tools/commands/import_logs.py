@@ -16,26 +16,26 @@ from itertools import chain
 from typing import Any, Iterable, Iterator, NamedTuple, Optional
 
 from new_enemy_tools import limits
-from new_enemy_tools.collecting import held_off
 from new_enemy_tools.commands.running import Parser, add_allowing
 from new_enemy_tools.coverage import Coverage, mark_of
-from new_enemy_tools.faults import DeviceFault
+from new_enemy_tools.faults import DeviceFault, PartsFault
+from new_enemy_tools.garbage_collection import held_off
 from new_enemy_tools.ids import Ids, locked, mark_of_file, refuse_other_file
 from new_enemy_tools.importing import openfga, spicedb, spicedb_schema
 from new_enemy_tools.importing.chained import in_chain, last_of
-from new_enemy_tools.importing.core import Core, Given, GoesOn
 from new_enemy_tools.importing.going_on import Left, read_left, refuse_other, write_left
+from new_enemy_tools.importing.import_summary import Written
 from new_enemy_tools.importing.neutral import gather_events
 from new_enemy_tools.importing.refusals import Refusals
 from new_enemy_tools.importing.sequence_numbers import Numbers
 from new_enemy_tools.importing.service import Log, ServiceRules
 from new_enemy_tools.importing.spool import Lines
-from new_enemy_tools.importing.writing import Written
-from new_enemy_tools.parting.part_faults import PartsFault
-from new_enemy_tools.pieces import LEAST_BYTES, PiecesWriter
+from new_enemy_tools.importing.trace_maker import Core, Given, GoesOn
 from new_enemy_tools.progress import Progress
+from new_enemy_tools.recording.beside import tell_words
 from new_enemy_tools.shown import tell
 from new_enemy_tools.trace_lines import with_mark
+from new_enemy_tools.trace_pieces import LEAST_BYTES, PiecesWriter
 from new_enemy_tools.windowing.state import State, read_state
 
 
@@ -124,6 +124,8 @@ def gathered(given: Namespace, base: Any, refusals: Refusals, progress: Progress
         chained = in_chain(given.logs, refusals, None if goes_on is None else goes_on.chain, goes_on is not None)
         if goes_on is not None:
             take_chain(goes_on, chained, refusals)
+        else:
+            tell_words(chained or [], refusals)
         lines.facts.is_chained = chained is not None
         more = chain.from_iterable(gather_events(path, lines, given.jobs, refusals) for path in chained or given.logs)
         end = partial(with_base, given, lines, refusals, is_later)
@@ -250,12 +252,12 @@ def imported(given: Namespace, base: Any, before: Optional[Before]) -> Imported:
         left = core.left()
         if left is not None and not refusals.refused:
             write_left(given.go_on, left._replace(ids=mark_of_file(given.ids)))
-    for line in refusals.told():
+    for line in refusals.summary_lines():
         say(line)
     if made is None or written is None or refusals.refused:
         return Imported(told_refused(refusals))
     coverage = made.coverage(refusals)
-    for line in made.told(coverage):
+    for line in made.lines(coverage):
         say(line)
     if len(written.pieces) > 1:
         say("the trace has %d bytes, and stands in %d pieces, %s to %s: audit it in parts, by tools/ne parts cut %d %s FOLDER"

@@ -11,7 +11,7 @@ from argparse import Namespace
 from functools import partial
 from typing import Iterable, Iterator
 
-from new_enemy_tools.commands.running import Parser, add_skew
+from new_enemy_tools.commands.running import Parser, add_skew, refuse_twice
 from new_enemy_tools.faults import DeviceFault
 from new_enemy_tools.importing import located
 from new_enemy_tools.importing.chained import end_of, in_chain
@@ -47,8 +47,7 @@ def given_of(words: list[str]) -> Namespace:
     given = parser.parse_args(words)
     if given.skew < 0 or not all(0 <= one < MANY_SECONDS for one in (given.stale_by, given.took)):
         parser.error("--skew, --stale-by or --took is below 0, or no time below %d seconds" % MANY_SECONDS)
-    if len(set(map(os.path.realpath, given.logs))) < len(given.logs):
-        parser.error("one LOG stands twice")
+    refuse_twice(parser, given.logs)
     return given
 
 

@@ -7,8 +7,8 @@ Tests compare it with the evidence that the program's own `make` finds.
 import sys
 
 from new_enemy_tools.commands.running import Parser
+from new_enemy_tools.evidence_maker import record
 from new_enemy_tools.files import traced
-from new_enemy_tools.maker import record
 from new_enemy_tools.meaning import Outgrown
 from new_enemy_tools.progress import Progress
 

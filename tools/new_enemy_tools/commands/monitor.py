@@ -21,15 +21,16 @@ from datetime import tzinfo
 from typing import Iterator, Optional
 
 from new_enemy_tools import limits
-from new_enemy_tools.commands.running import Parser, add_allowing, add_program, add_skew, percent
+from new_enemy_tools.commands.running import (Parser, add_allowing, add_program, add_skew, percent, refuse_below, refuse_twice,
+                                              text_of)
 from new_enemy_tools.effects import EFFECTS
 from new_enemy_tools.faults import DeviceFault, ToolFault
 from new_enemy_tools.files import read_bytes
-from new_enemy_tools.monitoring.core import Settings
+from new_enemy_tools.monitoring.devices import Machine, Way
 from new_enemy_tools.monitoring.joined import FOLDER, Several
-from new_enemy_tools.monitoring.machine import Machine, Way
 from new_enemy_tools.monitoring.marks import Mark
 from new_enemy_tools.monitoring.midnights import UTC, NoZone, zone_of
+from new_enemy_tools.monitoring.pure_monitor import Settings
 from new_enemy_tools.monitoring.receivers import SYSLOG, Command, Output, Receiver, Syslog, Webhook
 from new_enemy_tools.monitoring.run_files import options
 from new_enemy_tools.recording.command import address_of, url_of
@@ -65,11 +66,7 @@ def given_of(words: list[str]) -> tuple[Parser, Namespace]:
     parser.add_argument("logs", metavar="LOG", nargs="+", help="the folder of a recorder's log; several are joined")
     parser.add_argument("out", metavar="OUT", help="the monitor's folder")
     given = parser.parse_args(words)
-    for name, least in (("again", 1), ("most_lag", 0), ("hold", 0), ("keep_days", 0), ("keep_snapshots", 0),
-                        ("keep_versions", 1)):
-        value = getattr(given, name)
-        if value is not None and value < least:
-            parser.error("--%s is below %d" % (name.replace("_", "-"), least))
+    refuse_below(parser, given, again=1, most_lag=0, hold=0, keep_days=0, keep_snapshots=0, keep_versions=1)
     if not LEAST_BYTES <= given.day_bytes <= MOST_BYTES:
         parser.error("--day-bytes is from %d to %d" % (LEAST_BYTES, MOST_BYTES))
     refuse_logs(parser, given)
@@ -83,8 +80,7 @@ def given_of(words: list[str]) -> tuple[Parser, Namespace]:
 def refuse_logs(parser: Parser, given: Namespace) -> None:
     """Ends where the words on several logs don't go together."""
     given.logs, given.ended = [[os.path.normpath(path) for path in paths] for paths in (given.logs, given.ended)]
-    if len(set(map(os.path.realpath, given.logs))) < len(given.logs):
-        parser.error("one LOG stands twice")
+    refuse_twice(parser, given.logs)
     if len(given.logs) == 1 and (given.ended or given.skew != parser.get_default("skew")):
         parser.error("--ended and --skew are of several logs that are joined; give their folders")
     for folder in set(given.ended) - set(given.logs):
@@ -211,7 +207,7 @@ def ran(machine: Machine, way: Way) -> int:
     except ToolFault as ended:
         fault, status = str(ended), ended.status
     except OSError as failed:
-        fault, status = ": ".join(str(said) for said in (failed.filename, failed.strerror) if said), 5
+        fault, status = text_of(failed), 5
     except Exception as odd:
         machine.stop("a fault of the tool itself: %s: %s" % (type(odd).__name__, odd))
         raise

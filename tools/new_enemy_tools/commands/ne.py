@@ -1,10 +1,11 @@
 """One command for all that users call: ne COMMAND WORD .."""
 import importlib
+import sys
 from argparse import SUPPRESS
-from typing import NamedTuple
+from typing import NamedTuple, NoReturn
 
 from new_enemy_tools import VERSION
-from new_enemy_tools.commands.running import Parser, ended
+from new_enemy_tools.commands.running import Parser, ended, run
 
 
 class Command(NamedTuple):
@@ -46,3 +47,8 @@ def main(words: list[str]) -> int:
     name = words[0] if words and words[0] in COMMANDS else parser().parse_args(words[:1]).command
     command = importlib.import_module("new_enemy_tools." + COMMANDS[name].module)
     return ended(command.main, words[1:])
+
+
+def called() -> NoReturn:
+    """What tools/ne, and the command that pip installs, do."""
+    run(lambda: main(sys.argv[1:]))

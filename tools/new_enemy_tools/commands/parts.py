@@ -14,18 +14,18 @@ import sys
 from argparse import Namespace
 from typing import ContextManager, Optional
 
-from new_enemy_tools.commands.running import Parser
+from new_enemy_tools.commands.running import Parser, text_of
+from new_enemy_tools.faults import PartsFault
 from new_enemy_tools.files import read_bytes
 from new_enemy_tools.parting.blocks import Source
 from new_enemy_tools.parting.cutting import Cut
 from new_enemy_tools.parting.manifest import MOST_PARTS, read_manifest
 from new_enemy_tools.parting.merging import Answer, answer_of
-from new_enemy_tools.parting.part_faults import PartsFault
 from new_enemy_tools.parting.part_runs import run_all, run_parts
 from new_enemy_tools.parting.reports import read_part_report
-from new_enemy_tools.pieces import PiecesReader, pieces_of
 from new_enemy_tools.progress import Progress
 from new_enemy_tools.shown import tell as tell_line
+from new_enemy_tools.trace_pieces import PiecesReader, pieces_of
 
 
 def given_of(words: list[str]) -> Namespace:
@@ -141,5 +141,5 @@ def main(words: list[str]) -> int:
         tell_line("parts: %s" % fault, sys.stderr)
         return 2
     except OSError as fault:
-        tell_line("parts: %s" % ": ".join(str(said) for said in (fault.filename, fault.strerror) if said), sys.stderr)
+        tell_line("parts: %s" % text_of(fault), sys.stderr)
         return 5

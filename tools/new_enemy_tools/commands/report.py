@@ -13,25 +13,25 @@ from collections import Counter
 from datetime import date
 from typing import Callable, Iterable, Iterator, NamedTuple, Optional
 
-from new_enemy_tools.audited import read_audited
+from new_enemy_tools.audit_summary import LeftOut, Telling, telling_of, told_of, warnings_of
+from new_enemy_tools.audited_trace import read_audited
 from new_enemy_tools.baseline import read_baseline
-from new_enemy_tools.collecting import held_off
 from new_enemy_tools.commands.running import Parser, add_allowing
 from new_enemy_tools.coverage import coverage_in
 from new_enemy_tools.effects import EFFECTS
 from new_enemy_tools.faults import ToolFault
 from new_enemy_tools.files import read_bytes, read_ids, read_joined, read_trace_of, split_joined, write_whole
 from new_enemy_tools.findings import read_report
-from new_enemy_tools.forms import FORMS
+from new_enemy_tools.garbage_collection import held_off
 from new_enemy_tools.ignoring import read_rows
 from new_enemy_tools.labels import labels_in
 from new_enemy_tools.names import Names
 from new_enemy_tools.progress import Progress
+from new_enemy_tools.report_forms import FORMS
 from new_enemy_tools.shown import tell
-from new_enemy_tools.telling import LeftOut, Telling, telling_of, told_of, warnings_of
 from new_enemy_tools.trace import Trace
 from new_enemy_tools.trace_lines import OtherForm
-from new_enemy_tools.windowing.keeping import kept_day
+from new_enemy_tools.windowing.kept_traces import kept_day
 
 
 def parser_of_words() -> Parser:

@@ -52,6 +52,23 @@ def add_skew(parser: argparse.ArgumentParser) -> None:
                         "be apart (1000)")
 
 
+def refuse_below(parser: argparse.ArgumentParser, given: argparse.Namespace, **least: int) -> None:
+    for name, value in least.items():
+        said = getattr(given, name)
+        if said is not None and said < value:
+            parser.error("--%s is below %d" % (name.replace("_", "-"), value))
+
+
+def refuse_twice(parser: argparse.ArgumentParser, logs: list[str]) -> None:
+    if len({os.path.realpath(log) for log in logs}) < len(logs):
+        parser.error("one LOG stands twice")
+
+
+def text_of(fault: OSError) -> str:
+    """The file of a device's fault, where it names one, and what failed."""
+    return ": ".join(str(said) for said in (fault.filename, fault.strerror) if said)
+
+
 def say(fault: ToolFault, stream: TextIO) -> None:
     """The fault's line, and what else is to be said of it."""
     tell(str(fault), stream)

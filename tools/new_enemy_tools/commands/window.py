@@ -19,8 +19,9 @@ from collections import Counter
 from typing import Iterable, Optional
 
 from new_enemy_tools import limits, strictjson
-from new_enemy_tools.collecting import held_off
-from new_enemy_tools.commands.running import Parser, add_allowing, add_program
+from new_enemy_tools.commands.running import Parser, add_allowing, add_program, refuse_below
+from new_enemy_tools.faults import WindowFault
+from new_enemy_tools.garbage_collection import held_off
 from new_enemy_tools.progress import Progress
 from new_enemy_tools.shown import plain, tell
 from new_enemy_tools.windowing.audited_window import Audited, audited
@@ -29,7 +30,6 @@ from new_enemy_tools.windowing.days import to_disk
 from new_enemy_tools.windowing.following import Refused
 from new_enemy_tools.windowing.own_lines import Own
 from new_enemy_tools.windowing.state import CARRY, NOTHING, State, read_state, write_beside
-from new_enemy_tools.windowing.window_faults import WindowFault
 
 
 def add_keeping(parser: ArgumentParser) -> None:
@@ -62,10 +62,7 @@ def given_of(words: list[str]) -> Namespace:
 
 
 def refuse_usage(parser: ArgumentParser, given: Namespace) -> None:
-    for name, least in (("keep_snapshots", 0), ("keep_versions", 1), ("oldest_snapshot", 0)):
-        value = getattr(given, name)
-        if value is not None and value < least:
-            parser.error("--%s is below %d" % (name.replace("_", "-"), least))
+    refuse_below(parser, given, keep_snapshots=0, keep_versions=1, oldest_snapshot=0)
     if (given.oldest_snapshot or 0) > limits.NUMBER:
         parser.error("--oldest-snapshot is no timestamp")
 

@@ -53,7 +53,7 @@ def _said(decision: Decision) -> str:
     return "%s#%s@%s" % decision[0] + (" allowed" if decision[1] else " denied")
 
 
-def _told(what: str, count: int, some: Iterable[str]) -> list[str]:
+def _counted_line(what: str, count: int, some: Iterable[str]) -> list[str]:
     return ["%s: %d, as %s" % (what, count, next(iter(some)))] if count > 0 else []
 
 
@@ -61,12 +61,12 @@ def of_log(load: Load, log: Log, has_lost: bool) -> Iterator[str]:
     """What the clients saw and the log has not, and the other way. A list that is lost counts as one check, whatever it listed."""
     found = Counter(log.of.values())
     others, missing = found - load.asked, load.asked - found
-    yield from _told("checks of the log that nobody asked, or that were answered otherwise", sum(others.values()), map(_said, others))
+    yield from _counted_line("checks of the log that nobody asked, or that were answered otherwise", sum(others.values()), map(_said, others))
     count = 0 if has_lost else sum(missing.values()) - sum(others.values())
-    yield from _told("checks that are not in the log, which tells of none that is lost", count, map(_said, missing))
+    yield from _counted_line("checks that are not in the log, which tells of none that is lost", count, map(_said, missing))
     for what, some in (("tuples that were written and the log has not", load.stored - log.stored),
                        ("tuples that the log has and are not stored", log.stored - load.stored)):
-        yield from _told(what, len(some), ("%s#%s@%s" % one for one in some))
+        yield from _counted_line(what, len(some), ("%s#%s@%s" % one for one in some))
 
 
 def _of_audit(trace: Trace, text: str, log: Log) -> Iterator[str]:
@@ -78,7 +78,7 @@ def _of_audit(trace: Trace, text: str, log: Log) -> Iterator[str]:
     listed = [("the audit finds " + kind, some) for kind, some in sorted(lines.items())]
     listed.append(("audit and evaluator say other things of replies", sorted(wrong ^ set(lines.get("F10 wrong reply", ())))))
     for what, some in listed:
-        yield from _told(what, len(some), (_said(log.of[trace.entry_on(line).source or ""]) for line in some))
+        yield from _counted_line(what, len(some), (_said(log.of[trace.entry_on(line).source or ""]) for line in some))
 
 
 def compared(load: Load, room: str, program: str) -> Compared:

@@ -6,7 +6,7 @@ becomes one entry for each, so that the audit says of each that the reply is wro
 from bisect import bisect_left, bisect_right
 from typing import Iterable, Iterator, NamedTuple, Optional
 
-from new_enemy_tools.answers import Answers
+from new_enemy_tools.held_goals import Answers
 from new_enemy_tools.importing.commits import Commit, Writer
 from new_enemy_tools.rules import Declaration, Rules
 from new_enemy_tools.store import Store
@@ -122,7 +122,7 @@ class States:
         """Behind how many commits a state is."""
         return bisect_right(self.revisions, at)
 
-    def told(self) -> Iterator[str]:
+    def summary_lines(self) -> Iterator[str]:
         """Of how many checks it is not known which state they were answered from."""
         count = self.right + self.wrong
         if count:

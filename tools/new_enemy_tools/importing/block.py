@@ -5,11 +5,11 @@ from typing import Any, Callable, Iterable, Iterator, Mapping, NamedTuple, Optio
 
 from new_enemy_tools.importing.checks import NAMES, NEWEST, Checks, Look, Other, Row
 from new_enemy_tools.importing.events import Event, Line
+from new_enemy_tools.importing.line_shapes import QUOTE, Form, Said, Shape, Shapes, needed, shape_of
 from new_enemy_tools.importing.located import BLANK, Block
-from new_enemy_tools.importing.packed import Indexer
+from new_enemy_tools.importing.packed_blocks import Indexer
 from new_enemy_tools.importing.pairing import Full, Match, Pairing
 from new_enemy_tools.importing.printed import time_of as time_of_epoch
-from new_enemy_tools.importing.shapes import QUOTE, Form, Said, Shape, Shapes, needed, shape_of
 from new_enemy_tools.importing.spool import CALL, CHECKS, Facts, Read, row_of
 from new_enemy_tools.importing.times import nanoseconds
 

@@ -7,7 +7,8 @@ from new_enemy_tools.importing.opened import opened
 from new_enemy_tools.importing.refusals import Refusals
 
 BLOCK = 1 << 20
-LONGEST = 1 << 16
+# A first line may name many tuples that are in doubt.
+LONGEST = 4 << 20
 
 
 class Head(NamedTuple):

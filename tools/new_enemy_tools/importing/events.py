@@ -22,8 +22,8 @@ KEYS = {"rules": EVERY_EVENT | {"revision", "model", "namespaces", "came"},
         "write": EVERY_EVENT | {"revision", "base", "add", "remove", "came"},
         "check": ENTRY | {"newest"}, "content": ENTRY | {"newest"},
         "gap": EVERY_EVENT | {"from", "to", "reason", "lost"}, "elsewhere": EVERY_EVENT | {"count"}, "unmapped": EVERY_EVENT | {"reason", "detail", "userset", "version", "base"},
-        "feed": EVERY_EVENT | {"store", "changes", "last"}, "read": EVERY_EVENT | {"until", "revision", "unsure"}, "log": EVERY_EVENT | {"number", "before", "service", "store", "hold", "cursor", "revision", "rules_sha256", "behind", "apart", "doubts"},
-        "place": EVERY_EVENT | {"cursor", "revision", "rules_sha256", "behind", "apart", "doubts"}, "closed": EVERY_EVENT | {"count", "sha256", "full"}}
+        "feed": EVERY_EVENT | {"store", "changes", "last"}, "read": EVERY_EVENT | {"until", "revision", "unsure"}, "log": EVERY_EVENT | {"number", "before", "service", "store", "hold", "cursor", "revision", "rules_sha256", "behind", "apart", "doubts", "unshown"},
+        "place": EVERY_EVENT | {"cursor", "revision", "rules_sha256", "behind", "apart", "doubts", "unshown", "shown"}, "closed": EVERY_EVENT | {"count", "sha256", "full"}}
 # Lines of a recorder for itself and for the chain of its files.
 RECORDER = frozenset(("log", "feed", "read", "place", "closed"))
 NAMESPACE, RELATION = frozenset(("name", "relations")), frozenset(("name", "rewrite"))
@@ -318,9 +318,11 @@ def _gap(event: Event, value: dict[str, Any], refusals: Refusals) -> None:
 def _unmapped(value: dict[str, Any], file: str, line: int, refusals: Refusals) -> None:
     """What a recorder saw and has no form for."""
     userset, version, reason = value.get("userset"), value.get("version"), value.get("reason")
-    for listed in userset, version:
-        if listed is not None and (not isinstance(listed, list) or len(listed) != 3):
-            raise _Fault("`userset` or `version` is no list of three texts")
+    for key, listed, may_be_none in ("userset", userset, 1), ("version", version, None):
+        # A userset without an id is all of its relation.
+        if listed is not None and (not isinstance(listed, list) or len(listed) != 3 or not all(
+                isinstance(one, str) or one is None and place == may_be_none for place, one in enumerate(listed))):
+            raise _Fault("`%s` is no list of three texts" % key)
     if not isinstance(reason, str):
         raise _Fault("`reason` is no text")
     detail = str(value.get("detail") or "")

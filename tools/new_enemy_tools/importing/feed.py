@@ -11,7 +11,7 @@ from new_enemy_tools.importing.events import Entry, Event, Relationship, is_whol
 from new_enemy_tools.importing.keyed_hash import short
 from new_enemy_tools.importing.models import BEFORE, Given, Models, OtherModel, TwoModels
 from new_enemy_tools.importing.order import ordered
-from new_enemy_tools.importing.packed import Index, Moments, Odd, Packed, Stood, stood_of
+from new_enemy_tools.importing.packed_blocks import Index, Moments, Odd, Packed, Stood, stood_of
 from new_enemy_tools.importing.pages import read_again
 from new_enemy_tools.importing.reading import Bad
 from new_enemy_tools.importing.refusals import Refusals

@@ -13,7 +13,7 @@ from new_enemy_tools.importing.checks import NEWEST
 from new_enemy_tools.importing.commits import Commit, Writer
 from new_enemy_tools.importing.declared import Declared
 from new_enemy_tools.importing.events import Entry, Event
-from new_enemy_tools.importing.packed import Index, Packed, Run, Version
+from new_enemy_tools.importing.packed_blocks import Index, Packed, Run, Version
 from new_enemy_tools.importing.refusals import Refusals
 from new_enemy_tools.importing.spool import Spool, line_of, row_of
 from new_enemy_tools.progress import Progress

@@ -17,7 +17,7 @@ from new_enemy_tools.importing.between import States
 from new_enemy_tools.importing.declared import Declared
 from new_enemy_tools.importing.events import Event, RelationRule
 from new_enemy_tools.importing.first_pass import Taken
-from new_enemy_tools.importing.packed import Version
+from new_enemy_tools.importing.packed_blocks import Version
 from new_enemy_tools.importing.refusals import Refusals
 from new_enemy_tools.importing.spool import Facts, Lines
 from new_enemy_tools.importing.strata import Edges, Reason

@@ -6,9 +6,9 @@ from new_enemy_tools.importing import located
 from new_enemy_tools.importing.block import NEWEST_BETWEEN, SNAPSHOT_BETWEEN, Reader, Usual, When
 from new_enemy_tools.importing.checks import Look
 from new_enemy_tools.importing.events import Event, Line, read_events
-from new_enemy_tools.importing.packed import Indexer
+from new_enemy_tools.importing.line_shapes import GOAL, ID, LABEL, REPLY, TEXT, TIME, USER_RELATION, WHOLE, Field, Form, Said, field, form, needed
+from new_enemy_tools.importing.packed_blocks import Indexer
 from new_enemy_tools.importing.refusals import Refusals
-from new_enemy_tools.importing.shapes import GOAL, ID, LABEL, REPLY, TEXT, TIME, USER_RELATION, WHOLE, Field, Form, Said, field, form, needed
 from new_enemy_tools.importing.spool import Lines, Read
 from new_enemy_tools.parting.sharing import shared
 

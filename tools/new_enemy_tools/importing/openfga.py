@@ -10,21 +10,21 @@ from new_enemy_tools.importing.checks import Look
 from new_enemy_tools.importing.events import EVERY, Event, Line, Relationship, RelationRule, Stamp, put_stamp
 from new_enemy_tools.importing.feed import Moment, asked_of, moment_of, placed, shown_of
 from new_enemy_tools.importing.keyed_hash import short
+from new_enemy_tools.importing.line_shapes import (ID, LABEL, NULL, PART, REPLY, REST, STAMP, TEXT, TIME, USER_RELATION, WHOLE, Field, Form, Said, field,
+                                              form, needed)
 from new_enemy_tools.importing.located import List, line_at, line_of
 from new_enemy_tools.importing.models import Given, said_by
 from new_enemy_tools.importing.openfga_answers import answers_of, relationship_of
-from new_enemy_tools.importing.packed import Indexer
+from new_enemy_tools.importing.packed_blocks import Indexer
 from new_enemy_tools.importing.pages import Page, refuse_missing
 from new_enemy_tools.importing.reading import Bad, get, spelled
 from new_enemy_tools.importing.refusals import Refusals
-from new_enemy_tools.importing.service import (Answer, Log, Looked, ServiceRules, Users, demand_of, nested, one_of, refuse_wild_tuplesets,
+from new_enemy_tools.importing.service import (Answer, CheckedAt, Log, ServiceRules, Users, demand_of, nested, one_of, refuse_wild_tuplesets,
                                                text_or_none, tuplesets_of)
-from new_enemy_tools.importing.shapes import (ID, LABEL, NULL, PART, REPLY, REST, STAMP, TEXT, TIME, USER_RELATION, WHOLE, Field, Form, Said, field,
-                                              form, needed)
-from new_enemy_tools.importing.yaml_files import beside, is_yaml, read_yaml
 from new_enemy_tools.importing.spool import CALL, Lines
 from new_enemy_tools.importing.times import nanoseconds
 from new_enemy_tools.importing.write_calls import unshown, without_calls
+from new_enemy_tools.importing.yaml_files import beside, is_yaml, read_yaml
 
 SCHEMAS = ("1.1", "1.2")
 # By names and numbers; what JSON of protobuf leaves out is the first.
@@ -428,14 +428,14 @@ class OpenFgaLog(Log):
         return Look(said.get("reply") == b"true", None, snapshot[2], demand_of(asks_for_newest, label, token), label,
                     ((snapshot,), token, model.decode() if model else None))
 
-    def moment(self, value: dict[str, Any], content: Optional[dict[str, Any]]) -> Looked:
+    def moment(self, value: dict[str, Any], content: Optional[dict[str, Any]]) -> CheckedAt:
         holder = value if content is None else content
         asked = asked_of(value, get(holder, "token"), get(get(value, "request"), "authorization_model_id"))
         version, demanded = text_or_none(get(holder, "version"), "version"), get(get(value, "request"), "consistency")
         asks_for_newest = CONSISTENCY[None] if demanded is None else one_of(CONSISTENCY, demanded)
         if asks_for_newest is None:
             raise Bad("unknown consistency %r" % (demanded,))
-        return Looked(None, shown_of(asked), demand_of(content is None and asks_for_newest, version, asked.token), version, asked)
+        return CheckedAt(None, shown_of(asked), demand_of(content is None and asks_for_newest, version, asked.token), version, asked)
 
     def answers(self, value: dict[str, Any]) -> Iterator[Answer]:
         return answers_of(get(value, "request"), get(value, "response"), self.refusals)

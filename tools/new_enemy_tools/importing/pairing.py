@@ -5,9 +5,9 @@ from typing import Callable, Iterable, Iterator, Optional
 
 from new_enemy_tools.importing.carried import Carried, Otherwise, step_in, value_of
 from new_enemy_tools.importing.events import Line
+from new_enemy_tools.importing.line_shapes import flat_expression
 from new_enemy_tools.importing.located import BLANK
 from new_enemy_tools.importing.printed import REQUEST, Joining, is_plain_end
-from new_enemy_tools.importing.shapes import flat_expression
 
 Full = Callable[[int, bytes], list[Line]]
 Match = Callable[[bytes], Optional[re.Match[bytes]]]

@@ -2,7 +2,7 @@
 from typing import Any, Iterator, Union
 
 from new_enemy_tools.importing.events import Event
-from new_enemy_tools.importing.packed import Packed
+from new_enemy_tools.importing.packed_blocks import Packed
 from new_enemy_tools.importing.refusals import Refusals
 from new_enemy_tools.importing.spool import Facts, Lines
 

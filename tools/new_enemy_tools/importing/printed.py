@@ -11,6 +11,7 @@ from typing import Any, Generic, Iterable, Iterator, NamedTuple, Optional, TypeV
 from new_enemy_tools.importing.reading import Bad, get
 from new_enemy_tools.importing.times import nanoseconds
 from new_enemy_tools.keys import LONGEST, Unread
+from new_enemy_tools.strictjson import filled
 
 REQUEST, RESPONSE = "grpc.request.content", "grpc.response.content"
 FINISHED = "finished call"
@@ -44,7 +45,7 @@ def unwrapped(value: Any, keys: Iterable[str]) -> Any:
         data = value["data"]
         found = {key: get(data, key) for key in ("request", "response", "error", "status")}
         added = both(added_in(data), added_in(value), "the event and its `data`")
-        return _filled({**found, "time": value.get("time"), "method": value.get("type"), **added})
+        return filled({**found, "time": value.get("time"), "method": value.get("type"), **added})
     if "raw_request" not in value and not isinstance(value.get("grpc_method"), str):
         return value
     if _is_health(value.get("grpc_service")):
@@ -57,7 +58,7 @@ def unwrapped(value: Any, keys: Iterable[str]) -> Any:
     nothing: Optional[list[Any]] = [] if value.get("grpc_method") == "StreamedListObjects" else None
     found = {"request": request, "response": value.get("raw_response", nothing), "error": value.get("error"),
              "method": value.get("grpc_method"), "status": {"code": code} if code else None, "time": time_of(value.get("timestamp"))}
-    return _filled({**found, **given})
+    return filled({**found, **given})
 
 
 def hint_of(value: Any) -> str:
@@ -118,10 +119,6 @@ def _is_health(service: object) -> bool:
     return isinstance(service, str) and service.startswith("grpc.")
 
 
-def _filled(found: dict[str, Any]) -> dict[str, Any]:
-    return {key: one for key, one in found.items() if one is not None}
-
-
 def time_of(stamp: object) -> Optional[str]:
     """The time of a line of OpenFGA's log, which is a text, maybe with a zone without its colon, or seconds since 1970, of which a fraction of zero
     is not printed; None where it is neither."""
@@ -172,12 +169,16 @@ def is_plain_end(value: Any) -> bool:
         and not any(mistyped(value))
 
 
+def _request_id(value: dict[str, Any]) -> Optional[str]:
+    return next((value[key] for key in REQUEST_ID if isinstance(value.get(key), str)), None)
+
+
 def steps_of(value: Any) -> list[Step]:
     """What a line does to what waits, if it does anything."""
     if not Joining.takes(value) or _is_health(value.get("grpc.service")):
         return []
     kind = 0 if REQUEST in value else 1 if RESPONSE in value else 2
-    found = next((value[key] for key in REQUEST_ID if isinstance(value.get(key), str)), None)
+    found = _request_id(value)
     return [] if found is None and kind < 2 else [(kind, found or "", kind == 1 and is_stream(value))]
 
 
@@ -237,7 +238,7 @@ class Joining(UnderWay[Waiting]):
         """The request and the response, or the failure, of a call, once a line says it; None before. Raises Bad."""
         if _is_health(value.get("grpc.service")):
             return {"method": HEALTH} if RESPONSE not in value and REQUEST not in value else None
-        found = next((value[key] for key in REQUEST_ID if isinstance(value.get(key), str)), None)
+        found = _request_id(value)
         if self.steps is not None:
             self.steps += steps_of(value)
         told = {"method": value.get("grpc.method"), "time": value.get("time")}
@@ -257,7 +258,7 @@ class Joining(UnderWay[Waiting]):
         self.answer(found, is_stream(value))
         given = {key: value[key] for key in keys if key in value and key not in ("time", "error", "method")}
         given |= both(added, added_in(given), "the lines of the request and of the response")
-        return _filled({**told, "request": request, "response": plain_of(value[RESPONSE]), **given})
+        return filled({**told, "request": request, "response": plain_of(value[RESPONSE]), **given})
 
     def wait(self, found: str, value: dict[str, Any], line: int) -> None:
         """Keeps the request of a line."""
@@ -290,7 +291,7 @@ class Joining(UnderWay[Waiting]):
         if found is not None:
             self.answered.pop(found, None)
         if isinstance(code, str) and code != "OK":
-            return _filled({**told, "request": request, "status": code})
+            return filled({**told, "request": request, "status": code})
         if is_answered:
             return None
-        return _filled({**told, "request": request, "response": None if request is None else []})
+        return filled({**told, "request": request, "response": None if request is None else []})

@@ -180,7 +180,7 @@ class Refusals:
                         self.dark, since, until, self.open, self.last_file, OTHER_RULES if self.has_other_rules else None, self.elsewhere,
                         self.undated)
 
-    def told(self) -> Iterator[str]:
+    def summary_lines(self) -> Iterator[str]:
         """How the input is read, what was passed over and left out, and what is not audited."""
         yield from self.notes.values()
         for reason, count in sorted(self.passed.items()):

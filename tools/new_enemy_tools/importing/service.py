@@ -9,11 +9,11 @@ from new_enemy_tools.importing.carried import Blocks, Carried, Otherwise, has_st
 from new_enemy_tools.importing.checks import NEWEST, Look, Row
 from new_enemy_tools.importing.events import (EVERY, STAMP, Entry, Event, Line, Relationship, Stamp, newest_of, note_number,
                                               sequence_of, stamp_of)
-from new_enemy_tools.importing.packed import Indexer
+from new_enemy_tools.importing.line_shapes import Form, Said
+from new_enemy_tools.importing.packed_blocks import Indexer
 from new_enemy_tools.importing.pairing import Pairing
 from new_enemy_tools.importing.reading import Bad, get
 from new_enemy_tools.importing.refusals import Refusals
-from new_enemy_tools.importing.shapes import Form, Said
 from new_enemy_tools.importing.spool import Lines, Read
 from new_enemy_tools.importing.write_calls import with_calls
 from new_enemy_tools.keys import near, unread
@@ -110,7 +110,7 @@ def streamed(responses: list[Any], refusals: Refusals) -> list[Any]:
     return found
 
 
-class Looked(NamedTuple):
+class CheckedAt(NamedTuple):
     """The snapshot and the token of a check, and its version."""
 
     snapshot: Optional[int]
@@ -222,7 +222,7 @@ class Log:
         """Whether some rules take a tuple."""
         return self._takes(given.type, given.relation, given.user_type, given.user_relation)
 
-    def moment(self, value: dict[str, Any], content: Optional[dict[str, Any]]) -> Looked:
+    def moment(self, value: dict[str, Any], content: Optional[dict[str, Any]]) -> CheckedAt:
         """What a check looked at, and what it demanded; raises Bad."""
         raise NotImplementedError
 
@@ -301,7 +301,7 @@ class Log:
             for key in printed.mistyped(given):
                 self.refusals.refuse(path, line, key.said())
             try:
-                value = self._told(given, line)
+                value = self._line_within(given, line)
             except Bad as fault:
                 self._half(path, line, printed.call_of(given), str(fault))
                 continue
@@ -380,7 +380,7 @@ class Log:
         for call, (path, line) in self.refusals.unseen.items():
             self.refusals.refuse(path, line, "this %s wrote, and no line of the log says all of what: %s" % (call, self.GIVE_CHANGES))
 
-    def _told(self, given: Any, line: int) -> Any:
+    def _line_within(self, given: Any, line: int) -> Any:
         """The line that a printed one tells; None where it tells none as yet. Raises Bad."""
         value = self.joining.joined(given, line, self.KEYS) if self.joining.takes(given) else printed.unwrapped(given, self.KEYS)
         if value is not given and value is not None and value.get("request") is None and passing.method_of(value) in self.DECISIONS \
@@ -396,7 +396,7 @@ class Log:
                 self.refusals.pass_over("call that found nothing")
                 return
             content = content_of(value)
-            looked = self.moment(value, content)
+            moment = self.moment(value, content)
             newest = newest_of(value, Bad)
             if newest and content is None:
                 raise Bad("`newest` is said of a content check")
@@ -409,7 +409,7 @@ class Log:
             self.refusals.has_lost_version |= is_content
             self.refusals.unread_check(path, line, causes.UNREADABLE_CONTENT if is_content else causes.UNREADABLE, str(fault))
             return
-        snapshot, shown, token, version, asked = looked
+        snapshot, shown, token, version, asked = moment
         if version is not None and len({one.goal[:2] for one in answers if one is not UNREAD}) > 1:
             for _ in answers:
                 self.refusals.unread_check(path, line, causes.UNREADABLE, "a `version` is of one object, and this line asks of several")

@@ -5,19 +5,19 @@ from itertools import chain, groupby
 from operator import itemgetter
 from typing import Any, Iterator, Optional
 
-from new_enemy_tools.importing import located, printed, shapes, visibility
+from new_enemy_tools.importing import line_shapes, located, printed, visibility
 from new_enemy_tools.importing.block import When
 from new_enemy_tools.importing.checks import Look, Row
 from new_enemy_tools.importing.events import EVERY, Event, Line, Relationship, Stamp, put_stamp
+from new_enemy_tools.importing.line_shapes import GOAL, ID, LABEL, NULL, TEXT, TIME, USER_RELATION, Field, Form, Said, field, form, needed
 from new_enemy_tools.importing.located import line_of
 from new_enemy_tools.importing.reading import Bad, get
 from new_enemy_tools.importing.refusals import Refusals
-from new_enemy_tools.importing.service import Answer, Log, Looked, ServiceRules, demand_of, one_of, text_or_none
-from new_enemy_tools.importing.shapes import GOAL, ID, LABEL, NULL, TEXT, TIME, USER_RELATION, Field, Form, Said, field, form, needed
-from new_enemy_tools.importing.yaml_files import is_yaml, read_yaml
+from new_enemy_tools.importing.service import Answer, CheckedAt, Log, ServiceRules, demand_of, one_of, text_or_none
 from new_enemy_tools.importing.spicedb_answers import answers_of, relationship_of, revision_at, revision_in
 from new_enemy_tools.importing.spicedb_schema import Parser
 from new_enemy_tools.importing.spool import CALL, Lines, plain
+from new_enemy_tools.importing.yaml_files import is_yaml, read_yaml
 from new_enemy_tools.importing.zedtokens import Older, Revision, read_revision
 
 RELATIONSHIP = re.compile(r"(?P<type>[a-z0-9_/]+):(?P<id>[A-Za-z0-9/_|\-=+]+)#(?P<relation>[a-z0-9_]+)"
@@ -60,8 +60,10 @@ ASKED, TOLD = "asked.grpc-request-content.", "told.grpc-response-content."
 # The keys of a line of the log of requests and responses that are read.
 PRINTED = printed.ADDED | Log.KEYS | {"grpc-request-content", "grpc-response-content", "request_i_d", "request_id", "message",
                                       "grpc-service", "grpc-method", "grpc-method_type", "grpc-code"}
+# Why a response of Watch may have no updates.
+WITHOUT_UPDATES = ("isCheckpoint", "schemaUpdated", "optionalTransactionMetadata")
 # A request and its response have one id.
-JOINED = {"asked.request_i_d": shapes.CALL, "told.request_i_d": shapes.SAME_CALL, "told.time": field(TIME, "time")}
+JOINED = {"asked.request_i_d": line_shapes.CALL, "told.request_i_d": line_shapes.SAME_CALL, "told.time": field(TIME, "time")}
 STEADY = tuple("%s.%s" % (part, key) for part in ("asked", "told")
                for key in ("grpc-service", "grpc-method", "grpc-method_type", "message"))
 
@@ -252,6 +254,8 @@ class SpiceDbLog(Log):
         if not isinstance(updates, list):
             raise Bad("`updates` is no list")
         revision = revision_in(get(response, "changesThrough"), "`changesThrough`")
+        if not updates and not any(get(response, key) for key in WITHOUT_UPDATES):
+            raise Bad("a response of Watch has no `updates`, and is no checkpoint")
         if get(response, "schemaUpdated"):
             self.refusals.updated.append((key_of(revision), path, line))
         event = put_stamp(Event("write", path, line, revision.number, revision.shown), stamp)
@@ -306,26 +310,26 @@ class SpiceDbLog(Log):
             token = None if demanded is None else read_revision(demanded.decode())
             if revision is None or token is None and demanded is not None:
                 return None
-            looked = self._looked(revision, token, None if version is None else version.decode(), said.get("newest") is not None)
+            moment = self._moment_of(revision, token, None if version is None else version.decode(), said.get("newest") is not None)
         except (Bad, Older):
             return None
-        return Look(said["reply"] in (b"HAS", b"2"), looked.snapshot, looked.shown, looked.token, looked.version,
-                    None if looked.asked is None else tuple(map(plain, looked.asked)))
+        return Look(said["reply"] in (b"HAS", b"2"), moment.snapshot, moment.shown, moment.token, moment.version,
+                    None if moment.asked is None else tuple(map(plain, moment.asked)))
 
-    def moment(self, value: dict[str, Any], content: Optional[dict[str, Any]]) -> Looked:
+    def moment(self, value: dict[str, Any], content: Optional[dict[str, Any]]) -> CheckedAt:
         revision = revision_at(get(value, "response"))
         token = self._token(get(value, "request"), content)
         version = text_or_none(get(value if content is None else content, "version"), "version")
         asks = content is None and _asks_for_newest(get(get(value, "request"), "consistency"))
-        return self._looked(revision, token, version, asks)
+        return self._moment_of(revision, token, version, asks)
 
     @staticmethod
-    def _looked(revision: Revision, token: Optional[Revision], version: Optional[str], asks_for_newest: bool) -> Looked:
+    def _moment_of(revision: Revision, token: Optional[Revision], version: Optional[str], asks_for_newest: bool) -> CheckedAt:
         if token and bool(token.snapshot) != bool(revision.snapshot):
             raise Bad("the token is of another datastore than `checkedAt`")
         asked = (revision.snapshot, token and token.snapshot) if revision.snapshot else None
         demanded = token.number if token else demand_of(asks_for_newest, version, token)
-        return Looked(revision.number, revision.shown, demanded, version, asked)
+        return CheckedAt(revision.number, revision.shown, demanded, version, asked)
 
     @staticmethod
     def _token(request: object, content: object) -> Optional[Revision]:

@@ -7,7 +7,7 @@ from typing import IO, Iterable, Iterator, NamedTuple, Optional, Union
 from new_enemy_tools.ids import Ids
 from new_enemy_tools.importing.checks import NEWEST, Other, Row
 from new_enemy_tools.importing.events import EVERY, Entry, Event, Line, Relationship
-from new_enemy_tools.importing.packed import Packed, packed_of
+from new_enemy_tools.importing.packed_blocks import Packed, packed_of
 from new_enemy_tools.importing.sequence_numbers import Numbers
 
 BATCH = 1 << 12
@@ -217,6 +217,11 @@ def found_in(batch: bytes) -> Union[Packed, list[Row]]:
     return packed_of(found) if isinstance(found, tuple) else found
 
 
+def _taken_alone(found: Union[Packed, list[Row]]) -> list[Row]:
+    """The rows of a batch, of a block those that were taken by themselves."""
+    return [odd.row for odd in found.head.odd] if isinstance(found, Packed) else found
+
+
 class Lines:
     """The writes, rules and checks of an import, in order."""
 
@@ -316,8 +321,7 @@ class Lines:
         """The writes that calls say which made them; in a block such rows are taken by themselves."""
         for batch in self.spool.batches():
             found = found_in(batch)
-            rows = [one.row for one in found.head.odd] if isinstance(found, Packed) else found
-            yield from (WriteRow._make(row) for row in rows if row[0] == CALL)
+            yield from (WriteRow._make(row) for row in _taken_alone(found) if row[0] == CALL)
 
     def writes(self) -> Iterator[WriteRow]:
         """The writes behind the base state."""
@@ -347,7 +351,7 @@ class Lines:
         for batch in self.spool.batches():
             found = found_in(batch)
             points, wide = (found.head.revisions, list[tuple[int, int]]()) if isinstance(found, Packed) else ([], [])
-            for row in [odd.row for odd in found.head.odd] if isinstance(found, Packed) else found:
+            for row in _taken_alone(found):
                 if row[0] in CHECKS:
                     if row[9] in (None, row[5]):
                         points.append(row[5])

@@ -38,6 +38,10 @@ class Edges:
             known.remove(edge)
         del self.reasons[edge], self.counts[edge]
 
+    def circle(self, edge: Edge) -> list[Edge]:
+        """The edge, and a shortest way back where there is one."""
+        return [edge] + (self.path(edge.read, edge.reader) or [])
+
     def path(self, start: Name, end: Name) -> Optional[list[Edge]]:
         """A shortest path of edges from reader to read."""
         came: dict[Name, Optional[Edge]] = {start: None}
@@ -133,11 +137,14 @@ def choose(names: list[Name], edges: Edges, refusals: Refusals) -> dict[Name, in
     return strata
 
 
+def _on_circles(names: list[Name], edges: Edges) -> list[Edge]:
+    inside = {name: number for number, component in enumerate(components(names, edges)) for name in component}
+    return [edge for edge in edges.reasons if inside.get(edge.reader, -1) == inside.get(edge.read, -2)]
+
+
 def taking_circles_away(names: list[Name], edges: Edges) -> set[Name]:
     """The relations that hang on one which takes away what leads to relations that read one another in a circle."""
-    inside = {name: number for number, component in enumerate(components(names, edges)) for name in component}
-    circles = {edge.reader for edge in edges.reasons if inside.get(edge.reader, -1) == inside.get(edge.read, -2)}
-    leading = edges.readers(circles)
+    leading = edges.readers({edge.reader for edge in _on_circles(names, edges)})
     return edges.readers({edge.reader for edge in edges.reasons if edge.strict and edge.read in leading})
 
 
@@ -148,9 +155,7 @@ def open_circles(names: list[Name], edges: Edges) -> list[tuple[Edge, str]]:
     """
     taken: list[tuple[Edge, str]] = []
     while True:
-        inside = {name: number for number, component in enumerate(components(names, edges)) for name in component}
-        circles = ([edge] + (edges.path(edge.read, edge.reader) or []) for edge in list(edges.reasons)
-                   if edge.strict and inside.get(edge.reader, -1) == inside.get(edge.read, -2))
+        circles = (edges.circle(edge) for edge in _on_circles(names, edges) if edge.strict)
         tuples = next(filter(None, ([edge for edge in circle if edges.reasons[edge].is_tuple and not edges.reasons[edge].is_before]
                                     for circle in circles)), None)
         if tuples is None:
@@ -164,7 +169,7 @@ def open_circles(names: list[Name], edges: Edges) -> list[tuple[Edge, str]]:
 
 def _refuse(strict: Edge, edges: Edges, refusals: Refusals) -> None:
     """Names each edge of a circle through a strict edge; the last tuple of it is the one at fault."""
-    circle = [strict] + (edges.path(strict.read, strict.reader) or [])
+    circle = edges.circle(strict)
     told = []
     for edge in circle:
         reason, count = edges.reasons[edge], edges.counts[edge]

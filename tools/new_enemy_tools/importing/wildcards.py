@@ -55,7 +55,7 @@ class Wildcards:
         listed = [member for members in self.users.values() for member in members]
         return Event("write", self.first.file, self.first.line, BEFORE, "every user of a type", add=listed)
 
-    def told(self) -> Iterator[str]:
+    def summary_lines(self) -> Iterator[str]:
         if self.first is not None:
             types = ", ".join("%d of type %s" % (len(members), name) for name, members in self.users.items())
             yield "wildcards %d: a tuple for every user of a type stands for the users that the log names, %s" % (self.tuples, types)

@@ -9,7 +9,7 @@ from typing import Callable, Iterator, NamedTuple, Optional, Union
 from new_enemy_tools.importing.checks import Row, column
 from new_enemy_tools.importing.events import Event
 from new_enemy_tools.importing.keyed_hash import short
-from new_enemy_tools.importing.packed import Indexer, Packed
+from new_enemy_tools.importing.packed_blocks import Indexer, Packed
 from new_enemy_tools.importing.refusals import Refusals
 from new_enemy_tools.importing.spool import CALL, CHECKS, Lines, WriteRow, found_in, row_of
 

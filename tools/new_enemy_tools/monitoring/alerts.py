@@ -8,13 +8,14 @@ import json
 from hashlib import blake2b
 from typing import Any, NamedTuple, Optional
 
+from new_enemy_tools.audit_summary import Telling
 from new_enemy_tools.effects import MEANT, RatedFinding
-from new_enemy_tools.forms import row_of, sentence
+from new_enemy_tools.finding_stories import Event, Teller
 from new_enemy_tools.meaning import Outgrown
 from new_enemy_tools.monitoring.run import Run
+from new_enemy_tools.report_forms import row_of, sentence
 from new_enemy_tools.shown import plain
-from new_enemy_tools.stories import Event, Teller
-from new_enemy_tools.telling import Telling
+from new_enemy_tools.strictjson import filled
 
 Row = dict[str, Any]
 
@@ -126,7 +127,7 @@ def text_of(run: Run, telling: Telling, told: RatedFinding) -> Row:
                  "ignored_from": change and change.source}
     if told.outcome is not None:
         made["story"] = _story(run, told)
-    return {key: value for key, value in made.items() if value is not None}
+    return filled(made)
 
 
 def _title(run: Run, told: RatedFinding, user: str) -> str:
@@ -148,10 +149,8 @@ def _story(run: Run, told: RatedFinding) -> Row:
 
 
 def _event(event: Event) -> Row:
-    row = {"mark": event.mark, "text": plain(event.text), "where": event.where or None,
-           "revision": event.revision or None,
-           "time": event.time or None, "ignored": event.is_ignored or None}
-    return {key: value for key, value in row.items() if value is not None}
+    return filled({"mark": event.mark, "text": plain(event.text), "where": event.where or None,
+                   "revision": event.revision or None, "time": event.time or None, "ignored": event.is_ignored or None})
 
 
 def line_of(row: Row) -> str:

@@ -3,7 +3,7 @@ from collections import Counter
 from typing import Any, Mapping, NamedTuple
 
 from new_enemy_tools.labels import Labels, labels_of
-from new_enemy_tools.monitoring.core import Core
+from new_enemy_tools.monitoring.pure_monitor import Core
 from new_enemy_tools.recording.metrics import family
 
 START = "new_enemy_monitor_"

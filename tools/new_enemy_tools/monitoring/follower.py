@@ -5,11 +5,12 @@ from queue import Queue, SimpleQueue
 from threading import Thread
 from typing import Any, BinaryIO, NamedTuple, Optional, cast
 
-from new_enemy_tools.faults import DeviceFault
-from new_enemy_tools.windowing.window_faults import WindowFault
+from new_enemy_tools.faults import DeviceFault, MonitorFault, ToolFault, WindowFault
 
 # So many pieces of a trace wait at most until the program reads them.
 WAITING = 16
+# The program's status where it refuses what it reads; others are of devices and memory.
+REFUSES = 2
 
 
 class _Feeder:
@@ -87,12 +88,16 @@ class Follower:
         self._thread.join()
         return status
 
-    def fault(self) -> str:
-        """Why it ended too early."""
+    def fault(self) -> ToolFault:
+        """Why it ended too early: only where it refuses the trace is the log to blame."""
         status = self._process.wait()
         self._error.seek(0)
         said = self._error.read().decode("utf-8", "replace").strip()
-        return said or "%s ended with %d" % (self.program, status)
+        if status == REFUSES:
+            return MonitorFault("the program refuses the trace: %s" % said)
+        if status < 0:
+            return DeviceFault("%s was killed by signal %d" % (self.program, -status))
+        return DeviceFault("%s ended with status %d%s" % (self.program, status, said and ": " + said))
 
     def kill(self) -> None:
         """Also where somebody waits for its end."""

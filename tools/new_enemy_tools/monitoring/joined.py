@@ -11,13 +11,12 @@ from collections import deque
 from typing import Any, NamedTuple, Optional
 
 from new_enemy_tools.commands.join import value_of
-from new_enemy_tools.faults import DeviceFault
+from new_enemy_tools.faults import DeviceFault, MonitorFault
 from new_enemy_tools.files import write_whole
 from new_enemy_tools.importing.events import read_events
 from new_enemy_tools.importing.refusals import Refusals
-from new_enemy_tools.monitoring.core import Unjoined
-from new_enemy_tools.monitoring.faults import MonitorFault
 from new_enemy_tools.monitoring.holding import WRITE_WAIT
+from new_enemy_tools.monitoring.pure_monitor import Unjoined
 from new_enemy_tools.monitoring.stream import Chunk
 from new_enemy_tools.monitoring.tail import Place, Tail
 from new_enemy_tools.recording.days_joined import Before, kept

@@ -3,8 +3,8 @@ import json
 import os
 from typing import IO, Iterable, Optional
 
+from new_enemy_tools.faults import MonitorFault
 from new_enemy_tools.monitoring.alerts import Row, line_of
-from new_enemy_tools.monitoring.faults import MonitorFault
 
 
 class Journal:

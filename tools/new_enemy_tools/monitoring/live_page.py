@@ -6,8 +6,8 @@ from typing import Iterator, Mapping, NamedTuple, Sequence
 from new_enemy_tools.importing.times import SECONDS, text_of_time
 from new_enemy_tools.labels import Labels
 from new_enemy_tools.monitoring.alerts import Row
-from new_enemy_tools.monitoring.core import Core, Unjoined
 from new_enemy_tools.monitoring.exposition import Before
+from new_enemy_tools.monitoring.pure_monitor import Core, Unjoined
 from new_enemy_tools.page import asset, color_of, head
 from new_enemy_tools.shown import markup
 

@@ -5,7 +5,7 @@ receiver has an alert, and before anybody hears of that.
 """
 import os
 
-from new_enemy_tools.monitoring.faults import MonitorFault
+from new_enemy_tools.faults import MonitorFault
 
 FORM, SIZE = "%020d", 21
 

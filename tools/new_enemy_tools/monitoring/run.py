@@ -5,26 +5,26 @@ from collections import Counter, deque
 from hashlib import blake2b
 from typing import Callable, NamedTuple, Optional
 
+from new_enemy_tools.audit_summary import Telling, telling_of, told_of
 from new_enemy_tools.coverage import Coverage
 from new_enemy_tools.effects import RatedFinding
 from new_enemy_tools.entries import Commit
+from new_enemy_tools.faults import MonitorFault
 from new_enemy_tools.findings import ON_TOKENS, Finding, Report, finding_of
 from new_enemy_tools.ids import Ids
 from new_enemy_tools.importing import causes
 from new_enemy_tools.importing.going_on import Left
 from new_enemy_tools.labels import Labels
 from new_enemy_tools.limits import LINE_BYTES
-from new_enemy_tools.monitoring.faults import MonitorFault
 from new_enemy_tools.monitoring.holding import CHECKS, time_of
 from new_enemy_tools.monitoring.stream import Chunk, Stream
 from new_enemy_tools.names import Names
-from new_enemy_tools.telling import Telling, telling_of, told_of
 from new_enemy_tools.token_order import ignored
 from new_enemy_tools.trace import Refusal, Trace
 from new_enemy_tools.trace_lines import CHECK_START, CONTENT_START, Counted, counted_in, is_utf8, may_issue, snapshots_in
 from new_enemy_tools.windowing.audited_window import Audited
 from new_enemy_tools.windowing.beginning import Keep, begun, oldest_of
-from new_enemy_tools.windowing.following import BELOW, SUM, Told, told_by
+from new_enemy_tools.windowing.following import BELOW, SUM, RunReport, run_report_of
 from new_enemy_tools.windowing.own_lines import strata_in
 from new_enemy_tools.windowing.state import State
 
@@ -196,7 +196,7 @@ class Run:
 
     # What is told
 
-    def told(self, now: float, is_end: bool = False) -> Optional[Telling]:
+    def ready_findings(self, now: float, is_end: bool = False) -> Optional[Telling]:
         """The findings that can be told now, with their effects; those whose ignored commits are not all there yet
         wait for a little."""
         if not self._waiting:
@@ -243,9 +243,9 @@ class Run:
         """Ends the run's lines."""
         self.is_closed = True
 
-    def told_all(self, status: int) -> Told:
+    def told_all(self, status: int) -> RunReport:
         """What the program told, when it has ended with a status."""
-        return told_by("\n".join(self._output), status)
+        return run_report_of("\n".join(self._output), status)
 
     def end(self, found: Audited) -> None:
         """Takes what the run comes to."""

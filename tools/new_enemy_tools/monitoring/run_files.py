@@ -8,20 +8,20 @@ from argparse import Namespace
 from bisect import bisect_right
 from typing import BinaryIO, NamedTuple, Optional
 
-from new_enemy_tools.commands.day import go_on, kept
+from new_enemy_tools.commands.day import go_on, keep_day
 from new_enemy_tools.coverage import mark_of
+from new_enemy_tools.faults import MonitorFault
 from new_enemy_tools.files import read_bytes, write_whole
 from new_enemy_tools.findings import Finding
 from new_enemy_tools.ids import mark_of_file
 from new_enemy_tools.importing.going_on import write_left
 from new_enemy_tools.monitoring.alerts import Known
-from new_enemy_tools.monitoring.faults import MonitorFault
 from new_enemy_tools.monitoring.run import Begun, Run
 from new_enemy_tools.monitoring.tail import Place
 from new_enemy_tools.trace_lines import with_mark
 from new_enemy_tools.windowing.audited_window import Audited, state_behind, window_of
 from new_enemy_tools.windowing.days import MONITORED, Days
-from new_enemy_tools.windowing.following import untold
+from new_enemy_tools.windowing.following import report_of_waiting
 from new_enemy_tools.windowing.own_lines import Own
 from new_enemy_tools.windowing.state import CARRY
 
@@ -99,7 +99,7 @@ def words_of(days: Days, run: Run) -> list[str]:
 
 def untold_by(program: str, run: Run, held: set[tuple[str, str]]) -> list[Finding]:
     """Behind a run of an earlier version what it had not told of entries that this one has too."""
-    return [one for one in untold(program, run.state).findings if (run.trace.entries[one.line].source or "", one.finding) not in held]
+    return [one for one in report_of_waiting(program, run.state).findings if (run.trace.entries[one.line].source or "", one.finding) not in held]
 
 
 def ended(days: Days, program: str, run: Run, status: int, file: RunFile) -> Audited:
@@ -108,18 +108,18 @@ def ended(days: Days, program: str, run: Run, status: int, file: RunFile) -> Aud
     file.end(mark_of(coverage))
     own, told = Own(file.path, run.counted), run.told_all(status)
     new, given_up = state_behind(own, run.state, read_bytes(days.work(CARRY)), run.keep)
-    return window_of(own, run.state, new, untold(program, run.state).plus(told), given_up, True, coverage)
+    return window_of(own, run.state, new, report_of_waiting(program, run.state).plus(told), given_up, True, coverage)
 
 
 def keep(days: Days, given: Namespace, run: Run, found: Audited, stories: dict[str, Known], place: Place, file: RunFile) -> int:
     """Makes a day of a run that has ended; its number."""
-    write_whole(days.work("import.txt"), list(run.stream.told()))
+    write_whole(days.work("import.txt"), list(run.stream.summary_lines()))
     run.begun.ids.append()
     write_left(days.work("left"), run.stream.leave()._replace(ids=mark_of_file(days.work("ids.jsonl"))))
     write_whole(days.work(MONITORED), [json.dumps({"place": list(place), "stories": {key: list(one) for key, one in stories.items()}})])
     if os.path.exists(days.work(BEGUN)):
         os.remove(days.work(BEGUN))
-    return kept(days, given, Own(file.path, run.counted), found, run.begun.ids, run.digest.hexdigest())
+    return keep_day(days, given, Own(file.path, run.counted), found, run.begun.ids, run.digest.hexdigest())
 
 
 def options(folder: str, program: str, names: list[str], html: bool, keep_days: int, allow: float, snapshots: int,

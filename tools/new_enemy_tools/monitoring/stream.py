@@ -10,21 +10,21 @@ from typing import Iterator, NamedTuple, Optional
 
 from new_enemy_tools.coverage import Coverage
 from new_enemy_tools.edges import Name
+from new_enemy_tools.faults import MonitorFault
 from new_enemy_tools.ids import Ids
 from new_enemy_tools.importing import going_on
 from new_enemy_tools.importing.between import Spans
-from new_enemy_tools.importing.core import Core, GoesOn
 from new_enemy_tools.importing.doubts import Doubts
 from new_enemy_tools.importing.going_on import Left, Named, numbered
+from new_enemy_tools.importing.import_summary import Counts, Written
 from new_enemy_tools.importing.located import Block
 from new_enemy_tools.importing.neutral import Events
 from new_enemy_tools.importing.refusals import Refusals
 from new_enemy_tools.importing.spool import Lines, Spool
-from new_enemy_tools.importing.strata import Reason, choose
+from new_enemy_tools.importing.strata import Reason
+from new_enemy_tools.importing.trace_maker import Core, GoesOn
 from new_enemy_tools.importing.trace_texts import Shown
 from new_enemy_tools.importing.wildcards import Wildcards
-from new_enemy_tools.importing.writing import Counts, Written
-from new_enemy_tools.monitoring.faults import MonitorFault
 from new_enemy_tools.progress import Progress
 from new_enemy_tools.trace_lines import with_mark
 from new_enemy_tools.windowing.state import State
@@ -102,10 +102,7 @@ class Stream(Core):
         else:
             self._start(lines)
         self.taken.take_all(self._stream(lines), Spans(lines.spans() if lines.facts.has_groups else ()))
-        names = [(name, relation) for name in self.declared.rules.current
-                 for relation in self.declared.rules.relations(name)]
-        self._open_circles(names)
-        strata = choose(names, self.edges, self.refusals)
+        strata = self._chosen_strata()
         self._refuse()
         text = self._written(self._shown(strata))
         self.is_begun = True
@@ -172,11 +169,9 @@ class Stream(Core):
     def _shown(self, strata: dict[Name, int]) -> Shown:
         if self.is_written and any(strata[name] != stratum for name, stratum in self.strata.items()):
             raise NewStrata
-        shown, before = Shown(self.declared, self.ids, strata, self._times(strata), self.taken.demanded), self._before
-        if before is not None and not self.is_written:
-            shown.go_on(going_on.has_other_strata(before, strata))
-        elif not self.is_written:
-            shown.begin()
+        shown = self._shown_by(strata)
+        if not self.is_written:
+            self._begin_lines(shown, strata)
         self.strata = strata
         return shown
 
@@ -193,7 +188,7 @@ class Stream(Core):
 
     def _pieces(self, shown: Shown) -> Iterator[bytes]:
         if not self.has_between:
-            for batch in self._kept():
+            for batch in self._stored_batches():
                 piece, counts = self._piece(shown, batch)
                 self.counts.merge(counts)
                 yield piece
@@ -202,7 +197,7 @@ class Stream(Core):
         self.taken.states.take_rules(rules[self._rules:])
         self._rules = len(rules)
         self.taken.states.revisions.sort()
-        rows = (row for batch in self._kept() for row in marshal.loads(batch))
+        rows = (row for batch in self._stored_batches() for row in marshal.loads(batch))
         yield "".join(self._texts(rows, shown, self.counts)).encode()
 
     def issues(self, of: str, thing: str, label: str) -> bool:
@@ -225,11 +220,11 @@ class Stream(Core):
         return self.refusals.coverage(counts.checks + counts.contents, Counter(counts.in_part), counts.since,
                                       counts.until)
 
-    def told(self) -> Iterator[str]:
+    def summary_lines(self) -> Iterator[str]:
         """As an import of all lines says it."""
-        written = Written(iter(()), self.total, lambda: iter(() if not self.is_begun else self.taken.states.told()))
-        yield from self.refusals.told()
-        yield from written.told(self.coverage())
+        written = Written(iter(()), self.total, lambda: iter(() if not self.is_begun else self.taken.states.summary_lines()))
+        yield from self.refusals.summary_lines()
+        yield from written.lines(self.coverage())
 
     def leave(self) -> Left:
         """What the next run goes on from."""

@@ -5,9 +5,9 @@ import os
 import re
 from typing import IO, Any, NamedTuple, Optional
 
+from new_enemy_tools.faults import MonitorFault
 from new_enemy_tools.importing.opened import opened
 from new_enemy_tools.limits import LINE_BYTES
-from new_enemy_tools.monitoring.faults import MonitorFault
 from new_enemy_tools.monitoring.stream import Chunk
 
 PIECE = 1 << 20

@@ -3,7 +3,7 @@ import json
 import os
 from typing import NamedTuple, Optional
 
-from new_enemy_tools.parting.part_faults import PartsFault
+from new_enemy_tools.faults import PartsFault
 
 FORMAT = 1
 MOST_PARTS = 999

@@ -3,8 +3,8 @@ import heapq
 import re
 from typing import Iterable, Iterator, NamedTuple
 
+from new_enemy_tools.faults import PartsFault
 from new_enemy_tools.findings import ReportFault, read_report
-from new_enemy_tools.parting.part_faults import PartsFault
 from new_enemy_tools.parting.reports import PartReport
 
 FAULT = re.compile(r"(?:(trace|evidence) line ([1-9][0-9]*): .+|joined input refused|out of memory|read fault"
@@ -89,7 +89,7 @@ def _rendered(lines: list[str], entries: int) -> str:
         entries, len(lines), "dirty" if lines else "clean")
 
 
-def _told(report: PartReport) -> list[ReportLine]:
+def _lines_of(report: PartReport) -> list[ReportLine]:
     """The lines of a part's report, which has to be as the program writes it."""
     text = report.output.decode("utf-8", "replace")
     try:
@@ -119,5 +119,5 @@ def _disjoint(told: Iterable[ReportLine]) -> Iterator[str]:
 
 
 def _merged(reports: list[PartReport]) -> Answer:
-    lines = list(_disjoint(heapq.merge(*map(_told, reports))))
+    lines = list(_disjoint(heapq.merge(*map(_lines_of, reports))))
     return Answer(1 if lines else 0, _rendered(lines, sum(report.entries for report in reports)), "")

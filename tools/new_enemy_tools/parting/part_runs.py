@@ -23,11 +23,10 @@ def audit(program: str, trace: str, evidence: Optional[str], output: IO[bytes], 
     with subprocess.Popen([program], stdin=subprocess.PIPE, stdout=output, stderr=error) as process:
         assert process.stdin is not None
         try:
-            with open(trace, "rb") as file:
-                shutil.copyfileobj(file, process.stdin, PIECE)
-            process.stdin.write(b"---\n")
-            with open(evidence, "rb") as file:
-                shutil.copyfileobj(file, process.stdin, PIECE)
+            for path, behind in (trace, b"---\n"), (evidence, b""):
+                with open(path, "rb") as file:
+                    shutil.copyfileobj(file, process.stdin, PIECE)
+                process.stdin.write(behind)
             process.stdin.close()
         except BrokenPipeError:
             pass

@@ -4,9 +4,9 @@ import re
 import shutil
 from typing import IO, NamedTuple
 
+from new_enemy_tools.faults import PartsFault
 from new_enemy_tools.findings import ReportFault
 from new_enemy_tools.parting.manifest import Manifest
-from new_enemy_tools.parting.part_faults import PartsFault
 
 HEAD = re.compile(rb"part ([0-9]{1,3}) of ([0-9]{1,3})\ncut ([0-9a-f]{32})\nentries ([0-9]{1,18})\nstatus (-?[0-9]{1,9})\n"
                   rb"output ([0-9]{1,18})\nerror ([0-9]{1,18})\n\n")

@@ -10,7 +10,7 @@ from multiprocessing import get_context
 from threading import Thread
 from typing import Any, Callable, Generator, Iterable, TypeVar
 
-from new_enemy_tools.parting.part_faults import PartsFault
+from new_enemy_tools.faults import PartsFault
 
 SECOND = 1.0
 # So long a thread of this process may work while another one waits that hands blocks to the processes, or takes what they made. A

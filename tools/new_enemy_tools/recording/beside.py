@@ -10,6 +10,8 @@ import re
 import time
 from typing import Iterable, NamedTuple, Optional
 
+from new_enemy_tools.importing.refusals import Refusals
+
 NAME = re.compile(r"beside-[0-9]+-[0-9a-f]+")
 
 
@@ -87,6 +89,28 @@ class Words:
             except OSError:
                 # The next recorder tells it once more.
                 pass
+
+
+def tell_words(paths: Iterable[str], refusals: Refusals) -> None:
+    """Says what words beside the files of a log tell that no line of these does: of recorders that were killed while they waited for the folder,
+    or that pass requests still."""
+    for folder in sorted({os.path.dirname(path) for path in paths}):
+        try:
+            names = sorted(filter(NAME.fullmatch, os.listdir(folder or ".")))
+        except OSError as fault:
+            refusals.gap(folder, "gap beside the log: whether others passed requests is not known, since %s can't be listed: %s" % (
+                folder or ".", fault.strerror))
+            continue
+        for name in names:
+            path = os.path.join(folder, name)
+            try:
+                with open(path, encoding="utf-8") as file:
+                    found = Beside(*json.load(file))
+            except (OSError, ValueError, TypeError):
+                found = Beside(0, 0, 0)
+            refusals.gap(path, "gap beside the log: %s tells that another recorder passed requests that it did not record; the next one in "
+                         "that folder writes down from when to when" % path, found.start)
+            refusals.lose("requests that another recorder passed", found.amount or None, max(0, found.end - found.start))
 
 
 def _new_path(folder: str) -> str:

@@ -184,7 +184,7 @@ class Proxy:
         settings = self.settings._replace(word=self.word.path, since=self.word.start if self.starts else None)
         self.keeper.stdin.write(json.dumps(settings).encode())
         self.keeper.stdin.close()
-        self.teller.end = mine
+        self.teller.begin(mine)
         self.starts += 1
 
     def numbers(self) -> str:

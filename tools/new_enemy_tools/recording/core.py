@@ -12,7 +12,7 @@ from new_enemy_tools.importing.reading import Bad
 from new_enemy_tools.importing.service import Answer
 from new_enemy_tools.importing.times import nanoseconds
 from new_enemy_tools.recording.lines import elsewhere_line, gap_line, line, time_text, unmapped_line
-from new_enemy_tools.recording.log_files import KILLED, Doubts, Left, Place
+from new_enemy_tools.recording.log_files import KILLED, Doubts, Left, Place, Unshown
 from new_enemy_tools.recording.messages import CHECKS, Beat, Bye, Ended, Lost, Started
 from new_enemy_tools.recording.sequencer import Commit, Ready, Sequencer
 
@@ -90,6 +90,12 @@ class Service(Protocol):
     def doubts(self) -> Doubts:
         """The tuples of which it is not known whether they are there."""
 
+    def unshown(self) -> list[Unshown]:
+        """The writes that had their answer and are not shown yet."""
+
+    def noted(self, revision: int) -> tuple[list[Unshown], list[int]]:
+        """Takes out those that came since the last time, and the numbers of those that are no more, as the log up to a revision tells."""
+
 
 class Gaps:
     """What the log has not, told together where it goes on; the first at once, so that it stands before all that hangs on it."""
@@ -145,7 +151,8 @@ class Core:
         # what an earlier recorder left, and whether there was none
         self.left: Optional[Left] = None
         self.is_first = True
-        self.place = Place(None, 0, None)
+        # where the changes are behind the lines that were given, and before the last of these
+        self.place = self.before = Place(None, 0, None)
         # the checks without an answer, and those with one that are neither in the log nor in a gap yet
         self.asked: dict[int, Asked] = {}
         self.held: dict[int, Asked] = {}
@@ -374,11 +381,20 @@ class Core:
     def drained(self, now: Optional[Now] = None) -> bytes:
         """The lines that can be written now; `place` is then where the changes are behind them. Where it is time, the rest is given up that
         waited for too long, and what tells of that stands in front: no line is in the log whose time would say that all before is told."""
+        self.before = self.place
         first, self.first, made = list(self.first or ()), None, self._in_order()
         if now is not None:
             self.tick(now)
         unsaid, self.unsaid = self.unsaid, []
-        return b"".join([*first, *unsaid, *made])
+        return b"".join([*first, *self._noted(made), *unsaid, *made])
+
+    def _noted(self, made: list[bytes]) -> list[bytes]:
+        """The writes that are not shown stand in front of all whose time says that they were heard of; those that are no more are told last."""
+        unshown, shown = self.service.noted(self.place.revision) if self.is_ready else ([], [])
+        if shown:
+            made.append(place_line(self.place, shown=shown))
+        heard = max((one.answered for one in unshown), default=0)
+        return [place_line(self.before, unshown=[one.values for one in unshown], time=time_text(heard))] if unshown else []
 
     def _in_order(self) -> list[bytes]:
         made: list[bytes] = []
@@ -394,7 +410,7 @@ class Core:
                 self.held.pop(one.call, None)
         if self.is_ready and self.service.doubts != self.place.doubts:
             self.place = self.place._replace(doubts=self.service.doubts)
-            made.append(place_line(self.place, True))
+            made.append(place_line(self.place, doubts=self.place.doubts))
         return made
 
     # The end
@@ -446,8 +462,8 @@ def _reason(fault: Exception) -> str:
     return str(fault)[:LONGEST] if isinstance(fault, Bad) else "a line can't be understood (%s)" % type(fault).__name__
 
 
-def place_line(place: Place, has_doubts: bool = False) -> bytes:
-    return line("place", **place.keys, doubts=place.doubts if has_doubts else None)
+def place_line(place: Place, **more: Any) -> bytes:
+    return line("place", **place.keys, **more)
 
 
 def refuse_headers(message: Ended, answers: list[Answer]) -> None:

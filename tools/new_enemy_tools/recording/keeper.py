@@ -219,6 +219,7 @@ class Keeper:
                 self.said = None
             self.core.take(message, now)
             if self.core.first is not None:
+                self.log.unshown = self.core.service.unshown
                 # It may be long, and stands in one file.
                 for data in self.core.first:
                     self._write_whole(data, True)

@@ -14,7 +14,7 @@ import sys
 import threading
 import time
 from collections import deque
-from typing import Any, NamedTuple, Optional
+from typing import Any, Callable, Iterable, NamedTuple, Optional
 
 from new_enemy_tools.importing.opened import opened
 from new_enemy_tools.importing.times import nanoseconds
@@ -30,8 +30,10 @@ PATIENCE = 5.0
 SIZE = 512 << 20
 AGE = 3600.0
 KILLED = "the recorder was killed"
-# A first line that was cut is shorter.
-HEAD = 1 << 10
+# What each file begins with.
+HEAD = b'{"event":"log"'
+# So many writes that are not shown stand on a line.
+ON_A_LINE = 100
 # So much later than it should may what waits be given up, and that be told.
 LATER = 2.0
 
@@ -46,6 +48,25 @@ class InUse(Exception):
 
 # Tuples as a line has them; an empty one stands for all.
 Doubts = tuple[tuple[str, ...], ...]
+# A tuple as a line has it, and whether it came or went.
+Key = tuple[tuple[str, ...], bool]
+
+
+class Unshown(NamedTuple):
+    """A write that had its answer, and that the changes have yet to show: its number in the log, what it made, nothing where that is not known,
+    and when it was asked and answered."""
+
+    number: int
+    keys: tuple[Key, ...]
+    asked: int
+    answered: int
+
+    @property
+    def values(self) -> dict[str, Any]:
+        """As it stands in a line."""
+        sides = {"add": [one for one, live in self.keys if live], "remove": [one for one, live in self.keys if not live]}
+        return {"number": self.number, **{side: found for side, found in sides.items() if found}, "asked": time_text(self.asked),
+                "answered": time_text(self.answered)}
 
 
 class Place(NamedTuple):
@@ -73,7 +94,8 @@ class Place(NamedTuple):
 class Left(NamedTuple):
     """What an earlier recorder left: its last place, how many writes it wrote behind that and the last revision, until when the log tells of
     all, the revision of the base state, and the first tuples of its last writes, as far as they may come again. One that ended before it had
-    a next file for a full one was killed."""
+    a next file for a full one was killed. `unshown` are the writes that the changes had not shown, as far as it had heard of them, and `heard` is until
+    when it had: the time of its last line."""
 
     place: Place
     writes: int
@@ -82,6 +104,8 @@ class Left(NamedTuple):
     base: int
     changes: list[Known] = []
     was_killed: bool = False
+    unshown: tuple[Unshown, ...] = ()
+    heard: Optional[int] = None
 
     @property
     def behind(self) -> int:
@@ -107,6 +131,8 @@ class LogFiles:
         self.number = 0
         self.before: Optional[str] = None
         self.place = Place(None, 0, None)
+        # what each file says first of the writes that are not shown
+        self.unshown: Callable[[], Iterable[Unshown]] = tuple
         self._lock: Optional[int] = None
         # whether no recorder had the folder before
         self.is_first = False
@@ -146,7 +172,7 @@ class LogFiles:
                 names.remove(name)
             while names:
                 path = os.path.join(self.folder, names[-1])
-                found = self._take_over(path)
+                found = self._take_over(path, [os.path.join(self.folder, name) for name in names[-2:-1]])
                 if found is not None:
                     paths = [os.path.join(self.folder, name) for name in names]
                     changes = _last_changes(paths, found.writes + found.place.behind)
@@ -160,10 +186,11 @@ class LogFiles:
             raise LogFault(fault.strerror) from None
         return None
 
-    def _take_over(self, path: str) -> Optional[Left]:
-        """Reads a file and closes it; None where it has no beginning, with the base state where it is the first."""
+    def _take_over(self, path: str, earlier: list[str]) -> Optional[Left]:
+        """Reads a file and closes it; None where it has no beginning, with the base state where it is the first. `earlier` is the file before it."""
         head, store, size, closed, hashed = None, None, 0, None, hashlib.sha256()
         place, writes, revision, last, count = Place(None, 0, None), 0, 0, None, 0
+        unshown, told, wanted = dict[int, Unshown](), 0, 0
         with opened(path) as file:
             for raw in file:
                 value = _value_of(raw)
@@ -181,6 +208,10 @@ class LogFiles:
                 if kind in ("log", "place"):
                     place, writes = _place_of(value, place.doubts), 0
                     revision = place.revision
+                    if kind == "log":
+                        wanted = value.get("unshown", 0)
+                    else:
+                        told += _take_unshown(unshown, value)
                 elif kind in ("write", "rules") and not value.get("base") and value.get("revision") is not None:
                     writes, revision = writes + (kind == "write"), value["revision"]
                 elif kind == "closed":
@@ -191,11 +222,14 @@ class LogFiles:
                     last = value.get("time") or last
                 hashed.update(raw)
                 size, count = size + len(raw), count + 1
-        if head is None and os.path.getsize(path) > HEAD:
+        if head is None and not _is_cut_head(path):
             raise LogFault("%s is no file of a log; give another folder" % path)
         if head is None or place.rules is None:
             return None
-        self.hold_of_left = max(self.hold, head.hold)
+        self.hold_of_left, heard = max(self.hold, head.hold), nanoseconds(last)
+        if told < wanted:
+            # It was cut before it had told them all again.
+            unshown = _unshown_in(earlier)
         if closed is None:
             now = time.time_ns()
             gap = self._gap_of_killed(last, now)
@@ -205,11 +239,12 @@ class LogFiles:
         self.number, self.before, place = head.number, hashed.hexdigest(), place._replace(store=store)
         # A file may follow that has no changes.
         self.place = place._replace(revision=revision, behind=writes + place.behind)
+        self.unshown = unshown.values
         was_killed, at = closed is not None and bool(closed.get("full")), nanoseconds(last)
         if was_killed and at is not None:
             at = self._since_killed(at)
         self.until = at
-        return Left(place, writes, revision, None if at is None else time_text(at), 0, was_killed=was_killed)
+        return Left(place, writes, revision, None if at is None else time_text(at), 0, was_killed=was_killed, unshown=tuple(unshown.values()), heard=heard)
 
     def _since_killed(self, last: int) -> int:
         """What waited when a recorder was killed had its answer so long before the last line, or later."""
@@ -275,10 +310,13 @@ class LogFiles:
             raise LogFault(fault.strerror) from None
         self._begin_counts()
         until = time.time_ns() if self.until is None else self.until
+        unshown = [one.values for one in self.unshown()]
         head = line("log", number=self.number + 1, before=self.before, service=self.service, store=self.place.store,
-                    hold=self.hold or None, time=time_text(until), **self.place.keys, doubts=self.place.doubts or None)
+                    hold=self.hold or None, time=time_text(until), **self.place.keys, doubts=self.place.doubts or None,
+                    unshown=len(unshown) or None)
+        more = [line("place", **self.place.keys, unshown=unshown[at:at + ON_A_LINE]) for at in range(0, len(unshown), ON_A_LINE)]
         try:
-            self._put(head)
+            self._put(head + b"".join(more))
         except LogFault:
             os.close(self.descriptor)
             self.descriptor = None
@@ -386,6 +424,38 @@ def _value_of(raw: bytes) -> Optional[dict[str, Any]]:
 def _place_of(value: dict[str, Any], doubts: Doubts) -> Place:
     return Place(value.get("cursor"), value.get("revision", 0), value.get("rules_sha256"), value.get("behind", 0), tuple(value.get("apart", ())),
                  doubts=tuple(map(tuple, value["doubts"])) if "doubts" in value else doubts)
+
+
+def _is_cut_head(path: str) -> bool:
+    """Whether a file has nothing but a part of its first line."""
+    with opened(path) as file:
+        data = file.readline()
+        return not data.endswith(b"\n") and (data.startswith(HEAD) or HEAD.startswith(data))
+
+
+def _take_unshown(unshown: dict[int, Unshown], value: dict[str, Any]) -> int:
+    """Takes the writes that a line tells of, and out those that are shown; how many it tells of."""
+    listed = value.get("unshown", ())
+    unshown.update((one.number, one) for one in map(_unshown_of, listed))
+    for number in value.get("shown", ()):
+        unshown.pop(number, None)
+    return len(listed)
+
+
+def _unshown_in(paths: list[str]) -> dict[int, Unshown]:
+    """The writes that are not shown by the end of a file, if there is one."""
+    found: dict[int, Unshown] = {}
+    for path in paths:
+        with opened(path) as file:
+            for raw in file:
+                value = _value_of(raw) if raw.startswith(b'{"event":"place"') else None
+                _take_unshown(found, value or {})
+    return found
+
+
+def _unshown_of(value: dict[str, Any]) -> Unshown:
+    keys = tuple((tuple(one), side == "add") for side in ("add", "remove") for one in value.get(side, ()))
+    return Unshown(value["number"], keys, nanoseconds(value["asked"]) or 0, nanoseconds(value["answered"]) or 0)
 
 
 def _last_changes(paths: list[str], count: int) -> list[Known]:

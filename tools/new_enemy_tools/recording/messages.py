@@ -10,17 +10,22 @@ from typing import Any, Iterator, NamedTuple, Optional
 SIZE = struct.Struct("<I")
 # Calls that decide.
 CHECKS = frozenset(("check", "batch", "list", "stream"))
+WRITE = "write"
 # Calls that are told when they are passed on.
-TOLD = CHECKS | {"write"}
+TOLD = CHECKS | {WRITE}
 # A call that may decide, of which the recorder does not know how, or which not all services read alike.
 UNKNOWN = "unknown"
 UNKNOWN_CALL = "a call that the recorder does not know, which was answered"
 # Methods by which nobody asks for a decision.
 QUIET = frozenset(("HEAD", "OPTIONS", "TRACE", "CONNECT"))
+# What a message takes beside its bodies.
+EACH = 500
 # So many messages are written at once, and so many bytes read.
 AT_ONCE, READ = 64, 1 << 16
 # So many bytes may wait for the keeper.
 ROOM = 64 << 20
+# Of so many bytes of writes that had their answers it is remembered what they made.
+WRITTEN = 16 << 20
 
 
 class Started(NamedTuple):
@@ -93,11 +98,34 @@ def packed(message: tuple[Any, ...]) -> bytes:
     return SIZE.pack(len(data)) + data
 
 
+def _size(message: Ended) -> int:
+    return EACH + len(message.request or b"") + len(message.response or b"")
+
+
+class Writes:
+    """The last writes that had their answers."""
+
+    def __init__(self) -> None:
+        self.kept: deque[Ended] = deque()
+        self.size = 0
+
+    def keep(self, message: Ended) -> None:
+        if message.call == WRITE and 200 <= message.status < 300:
+            self.kept.append(message)
+            self.size += _size(message)
+        while self.size > WRITTEN:
+            self.size -= _size(self.kept.popleft())
+
+
 class Teller:
-    """The proxy's side. It writes what the socket takes at once, or where it gathers when it is asked to, and keeps the rest for `flush`."""
+    """The proxy's side. It writes what the socket takes at once, or where it gathers when it is asked to, and keeps the rest for `flush`.
+
+    What a write made may rest on nothing but its answer. So each keeper is told of the last writes when it begins, and knows which of them its log
+    has; and those of which one could not be told are told it when there is room."""
 
     def __init__(self, end: Optional[socket.socket]):
         self.end, self.gathers = end, False
+        self.writes, self.untold = Writes(), Writes()
         self.waiting: deque[bytes] = deque()
         self.size = 0
         self.lost: Optional[Lost] = None
@@ -107,7 +135,10 @@ class Teller:
     def tell(self, message: tuple[Any, ...]) -> None:
         if isinstance(message, Ended):
             self.answered[message.call] += 1
+            self.writes.keep(message)
         if not self._put(message):
+            if isinstance(message, Ended):
+                self.untold.keep(message)
             self.lose("the keeper of the log does not keep up" if self.end is not None else "the keeper of the log was gone")
         if not self.gathers:
             self.flush()
@@ -139,6 +170,16 @@ class Teller:
         if self.lost is not None and self.end is not None and self.size < ROOM:
             lost, self.lost = self.lost, None
             self._keep(lost)
+        if self.end is not None and self.size < ROOM:
+            untold, self.untold = self.untold, Writes()
+            for one in untold.kept:
+                self._keep(one)
+
+    def begin(self, end: socket.socket) -> None:
+        """A keeper begins."""
+        self.end, self.untold = end, Writes()
+        for one in self.writes.kept:
+            self._keep(one)
 
     def _keep(self, message: tuple[Any, ...]) -> None:
         self.waiting.append(packed(message))

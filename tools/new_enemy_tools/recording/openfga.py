@@ -25,8 +25,8 @@ from new_enemy_tools.recording.core import FULL, WAITING, Asked, Begun, Core
 from new_enemy_tools.recording.grpc_calls import GRPC
 from new_enemy_tools.recording.http_reading import loose
 from new_enemy_tools.recording.lines import ODD, Came, line, time_text, tuple_list, unmapped_line, write_line
-from new_enemy_tools.recording.log_files import Doubts, Left, Place
-from new_enemy_tools.recording.messages import QUIET, UNKNOWN, Ended, Started
+from new_enemy_tools.recording.log_files import Doubts, Left, Place, Unshown
+from new_enemy_tools.recording.messages import QUIET, UNKNOWN, Ended, Started, Writes
 from new_enemy_tools.recording.openfga_messages import MESSAGES
 from new_enemy_tools.recording.overlap import Change, Read
 from new_enemy_tools.recording.places import Places, Row, Window, by_turns
@@ -113,10 +113,16 @@ class Waiting(NamedTuple):
 
 class Made:
     """What a write made that has its answer, and the readings have yet to prove: each of its changes, None where too many wait. It was
-    asked and answered at times of the clock of all processes, and answered at a time."""
+    asked and answered at times of the clock of all processes, and answered at a time. `note` is its number in the log."""
 
     def __init__(self, number: int, keys: list[Optional[Key]], asked: int, answered: int, at: int):
         self.number, self.keys, self.asked, self.answered, self.at = number, keys, asked, answered, at
+        self.note = 0
+
+    @property
+    def unshown(self) -> Unshown:
+        keys = tuple((tuple(tuple_list(key[0])), key[1]) for key in self.keys if key is not None)
+        return Unshown(self.note, keys, self.at - (self.answered - self.asked), self.at)
 
 
 class Taint(NamedTuple):
@@ -166,6 +172,13 @@ class OpenFga:
         # writes under way by their numbers, with when they were asked, and those that have an answer
         self.open: dict[int, int] = {}
         self.made: deque[Made] = deque()
+        # how many of these the log was told of; those that it is to be told of, and that are no more, with the last revision then
+        self.notes = 0
+        self.fresh: list[Made] = []
+        self.gone: deque[tuple[int, int]] = deque()
+        # writes with an answer that were told before the log went on, and whether the last change that it had of each tuple then was a coming
+        self.early = Writes()
+        self.last_live: dict[tuple[str, ...], bool] = {}
         self.unsure: deque[Unsure] = deque()
         # of the last changes where those of each key stand; and of each tuple whether it was there last
         self.recent: deque[tuple[Key, int]] = deque()
@@ -225,8 +238,55 @@ class OpenFga:
         behind = (left.writes if left else 0) + place.behind + len(base.changes)
         self.tainted = {Relationship(*one) if one else None: Taint(ODD, base.received) for one in place.doubts}
         self.doubts = place.doubts
+        self.last_live = {one.given: one.live for one in (left.changes if left else ()) if one.given is not None}
+        self.last_live.update((one.form, one.live) for one in base.changes if one.form is not None)
+        if left is not None:
+            self._take_unshown(left, base, core)
+        self.early = Writes()
         place = Place(base.cursor, revision, rules.hash, behind, place.apart, base.store, place.doubts)
         core.begin_log(Begun(lines if left else self._base_lines(rules.data, base), is_empty, place))
+
+    def _take_unshown(self, left: Left, base: Base, core: Core) -> None:
+        """The writes that the log before does not show, nor what came since; what was answered behind its last line it had not heard of."""
+        for one in left.unshown:
+            keys: list[Optional[Key]] = [(Relationship(*form), live) for form, live in one.keys]
+            ahead = core.now.wall - core.now.clock
+            # By a clock that was set meanwhile they may come to stand behind this reading.
+            asked, answered = min(one.asked - ahead, base.began), min(one.answered - ahead, base.began)
+            self._wait_for(Made(0, keys or [None], asked, answered, one.answered))
+        for message in self.early.kept:
+            # A line has its time to microseconds.
+            if left.heard is None or message.at // 1000 > left.heard // 1000:
+                core.tried(message, partial(self._note, message))
+
+    def _wait_for(self, made: Made) -> None:
+        """Waits until a write is shown, but for what the base state has of it, or what the log had before: of each tuple that changed lately its
+        last change is known."""
+        if made.asked < self.first:
+            made.keys = [key for key in made.keys if key is None or self.last_live.get(tuple(tuple_list(key[0]))) is not key[1]]
+        if not made.keys:
+            return
+        if len(self.made) < MADE:
+            self.made.append(made)
+        else:
+            self._settle(self.made[-1])
+            self.made[-1] = made = Made(0, [None], self.made[-1].asked, made.answered, made.at)
+        self.notes += 1
+        made.note = self.notes
+        self.fresh.append(made)
+
+    def _settle(self, made: Made) -> None:
+        """What a write made is shown, or waited for no longer."""
+        self.gone.append((self.places.revision, made.note))
+
+    def unshown(self) -> list[Unshown]:
+        return [made.unshown for made in self.made]
+
+    def noted(self, revision: int) -> tuple[list[Unshown], list[int]]:
+        fresh, self.fresh, shown = self.fresh, [], list[int]()
+        while self.gone and self.gone[0][0] <= revision:
+            shown.append(self.gone.popleft()[1])
+        return [made.unshown for made in fresh], shown
 
     def _base_lines(self, rules: bytes, base: Base) -> Iterator[bytes]:
         """The rules and the base state, which may be long; and the last changes in it, which come again where another recorder goes on."""
@@ -387,19 +447,14 @@ class OpenFga:
     def _note(self, message: Ended) -> None:
         """What a write made that has its answer. Where it is no fault that a tuple is there, or is not, it may have made nothing."""
         asked = self.open.pop(message.number, message.clock - (message.at - message.begun))
-        if message.request is None or message.response is None or not 200 <= message.status < 300 or asked < self.first:
+        if message.request is None or message.response is None or not 200 <= message.status < 300:
             return
         request, keys = self._request(message), []
         for part, otherwise, live in ("writes", "on_duplicate", True), ("deletes", "on_missing", False):
             given = get(request, part)
             keys += [(relationship_of(one), live) for one in get(given, "tuple_keys") or ()
                      if (get(given, otherwise) or "error") == "error"]
-        if not keys:
-            return
-        if len(self.made) < MADE:
-            self.made.append(Made(message.number, [*keys], asked, message.clock, message.at))
-        else:
-            self.made[-1] = Made(0, [None], self.made[-1].asked, message.clock, message.at)
+        self._wait_for(Made(message.number, [*keys], asked, message.clock, message.at))
 
     def _after(self, key: Key, asked: int) -> list[int]:
         """The changes of a key that a write may have made which was asked at a time."""
@@ -421,6 +476,8 @@ class OpenFga:
             made.keys = [key for key in made.keys if key is None or not self._is_proved(key, made, received)]
             if made.keys:
                 kept.append(made)
+            else:
+                self._settle(made)
         self.made = kept
 
     def _is_proved(self, key: Key, made: Made, received: int) -> bool:
@@ -450,7 +507,12 @@ class OpenFga:
         while self.made and self.made[0].answered < before:
             first = self.made.popleft()
             for key in first.keys:
-                self._taint(None if key is None else key[0], Taint(UNSHOWN % (self.hold / 1e9)))
+                if key is not None:
+                    self._taint(key[0], Taint(UNSHOWN % (self.hold / 1e9)))
+                else:
+                    self.tainted = {None: Taint(UNSHOWN % (self.hold / 1e9))}
+                    self._tell_doubts()
+            self._settle(first)
             lost = [one for one in self.waits if one.message.clock >= first.asked]
             self.waits = [one for one in self.waits if one.message.clock < first.asked]
             for one in lost:
@@ -499,6 +561,8 @@ class OpenFga:
         if message.call == "write":
             if core.is_ready:
                 self._note(message)
+            else:
+                self.early.keep(message)
             self.open.pop(message.number, None)
             return
         request = self._request(message)

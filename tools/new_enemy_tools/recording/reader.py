@@ -9,7 +9,7 @@ from collections import deque
 from typing import Callable, Optional
 
 from new_enemy_tools.recording.http_reading import Head, Messages, Strange, path_of
-from new_enemy_tools.recording.messages import CHECKS, TOLD, UNKNOWN, UNKNOWN_CALL, Ended, Started, Teller
+from new_enemy_tools.recording.messages import CHECKS, TOLD, UNKNOWN, UNKNOWN_CALL, WRITE, Ended, Started, Teller
 
 NUMBERS = itertools.count(1)
 Call = Callable[[str, str], Optional[str]]
@@ -65,6 +65,8 @@ class Reader:
         # those without an answer, and those of which something is still to be passed on
         self.exchanges: deque[Exchange] = deque()
         self.coming: deque[Exchange] = deque()
+        # how many writes are among those without an answer
+        self.writing = 0
         # how many bytes are held of these
         self.held = 0
         self.asked: Optional[Exchange] = None
@@ -103,6 +105,10 @@ class Reader:
         else:
             self.asked.held += data
             self.held += len(data)
+
+    def is_writing(self) -> bool:
+        """Whether a write has no answer yet."""
+        return self.writing > 0
 
     def waits(self) -> int:
         """How many bytes are held."""
@@ -168,6 +174,7 @@ class Reader:
         """The recorder ends. What has no answer yet is told no more, so that the keeper counts it."""
         self.is_over = True
         self.exchanges.clear()
+        self.writing = 0
 
     def end_requests(self) -> None:
         """The client has ended its side: no more of a request comes, and the service is to see that end."""
@@ -188,6 +195,7 @@ class Reader:
         for exchange in self.exchanges:
             self._tell_end(exchange, None)
         self.exchanges.clear()
+        self.writing = 0
 
     def _feed_end(self) -> None:
         try:
@@ -205,6 +213,7 @@ class Reader:
         length = head.length() or 0
         self.requests.is_wanted = exchange.call in TOLD
         self.exchanges.append(exchange)
+        self.writing += exchange.call == WRITE
         self.coming.append(exchange)
         self.asked = exchange
         return length
@@ -237,6 +246,7 @@ class Reader:
         if 100 <= self.exchanges[0].status < 200:
             return
         exchange = self.exchanges.popleft()
+        self.writing -= exchange.call == WRITE
         exchange.is_answered = True
         self._tell_end(exchange, body)
 

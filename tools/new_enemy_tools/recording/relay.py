@@ -57,8 +57,14 @@ class Side(asyncio.BufferedProtocol):
             self.reader.feed(self.reader.requests, data)
             self.pass_on(self, self.other)
         else:
-            self.other.transport.write(data)
-            self.reader.feed(self.reader.answers, data)
+            if self.reader.is_writing():
+                # What rests on the answer of a write may be asked as soon as that is passed on: it is told before.
+                self.reader.feed(self.reader.answers, data)
+                self.relay.teller.flush()
+                self.other.transport.write(data)
+            else:
+                self.other.transport.write(data)
+                self.reader.feed(self.reader.answers, data)
             self.pass_on(self.other, self)
 
     def pass_on(self, client: "Side", service: "Side") -> None:

@@ -22,8 +22,8 @@ from new_enemy_tools.recording.bodies import UNHEARD, request_of, response_of
 from new_enemy_tools.recording.core import FULL, WAITING, Asked, Begun, Core
 from new_enemy_tools.recording.http_reading import loose
 from new_enemy_tools.recording.lines import line, time_text, write_line
-from new_enemy_tools.recording.log_files import Doubts, Left, Place
-from new_enemy_tools.recording.messages import QUIET, UNKNOWN, Ended, Started
+from new_enemy_tools.recording.log_files import Doubts, Left, Place, Unshown
+from new_enemy_tools.recording.messages import QUIET, UNKNOWN, Ended, Started, Writes
 from new_enemy_tools.recording.own_events import UNSURE
 from new_enemy_tools.recording.ruled import Takes, Unread, refuse_unread, ruled
 from new_enemy_tools.recording.sequencer import Commit, Known
@@ -189,6 +189,8 @@ class Feed:
         if left is not None:
             self.token, self.known = token, left.behind if revision.snapshot else 0
             self.number = left.revision
+            # The stream may begin with that.
+            self.recent.append(revision.snapshot and revision.snapshot.own)
             return Base(left, revision, token, Stored(), rules, refusals)
         stored = Stored()
         for of in rules.event.namespaces:
@@ -281,6 +283,8 @@ class SpiceDb:
         # how many decisions those have
         self.weight = 0
         self.answered: list[Answered] = []
+        # writes with an answer that were told before the log began or went on
+        self.early = Writes()
 
     # What the feed tells
 
@@ -318,6 +322,9 @@ class SpiceDb:
         self.history = Known(revision)
         core.sequencer.reached = revision
         core.begin_log(Begun(lines, not base.stored.tuples, self._first_place(base, revision, rules.hash)))
+        early, self.early = self.early, Writes()
+        for message in early.kept:
+            core.tried(message, partial(self._take_written, message))
 
     def _first_place(self, base: Base, revision: int, rules: str) -> Place:
         """Where the changes are when the log begins; on PostgreSQL the log may have some that come again."""
@@ -413,18 +420,33 @@ class SpiceDb:
     def end(self, message: Ended, asked: Asked, core: Core) -> None:
         if message.call == "write" and not 200 <= message.status < 300:
             return
-        request, response = request_of(message), response_of(message)
         if message.call == "write":
-            revision = revision_of(get(get(response, "writtenAt") or get(response, "deletedAt"), "token"))
-            if revision.number is not None:
-                self.history.add(message.clock, revision.number)
-            elif revision.snapshot is not None:
-                self._learn(Answered(message.clock, revision.snapshot))
+            if core.is_ready:
+                self._take_written(message)
+            else:
+                self.early.keep(message)
             return
+        request, response = request_of(message), response_of(message)
         MESSAGES.refuse_unknown("Consistency", get(request, "consistency"))
         if message.call == "stream":
             response = [one for one in response if get(one, "error") is None]
         self.decided(message, request, response, asked, core)
+
+    def _take_written(self, message: Ended) -> None:
+        """What a write made is known when it has its answer."""
+        response = response_of(message)
+        revision = revision_of(get(get(response, "writtenAt") or get(response, "deletedAt"), "token"))
+        if revision.number is not None:
+            self.history.add(message.clock, revision.number)
+        elif revision.snapshot is not None:
+            self._learn(Answered(message.clock, revision.snapshot))
+
+    def unshown(self) -> list[Unshown]:
+        """Replies name their snapshots, so that none is judged without what it saw."""
+        return []
+
+    def noted(self, revision: int) -> tuple[list[Unshown], list[int]]:
+        return [], []
 
     def decided(self, message: Ended, request: Any, response: Any, asked: Asked, core: Core) -> None:
         """Puts the decisions of a call behind all that it saw, and behind all that was surely visible when it began."""

@@ -5,14 +5,14 @@ from typing import Callable, NamedTuple, Optional
 
 from new_enemy_tools import limits, strictjson
 from new_enemy_tools.coverage import Coverage, coverage_of, marks_in
+from new_enemy_tools.faults import WindowFault
 from new_enemy_tools.files import read_bytes
 from new_enemy_tools.trace_lines import Counted, counted_in, is_imported
 from new_enemy_tools.windowing.beginning import Keep, begun, head_behind, oldest_of, version_of
 from new_enemy_tools.windowing.carries import Carry
-from new_enemy_tools.windowing.following import Follow, Told, untold
+from new_enemy_tools.windowing.following import Follow, RunReport, report_of_waiting
 from new_enemy_tools.windowing.own_lines import Own
 from new_enemy_tools.windowing.state import NOTHING, State
-from new_enemy_tools.windowing.window_faults import WindowFault
 from new_enemy_tools.windowing.window_report import WindowReport, window_report_of
 
 Step = Callable[[int], None]
@@ -47,7 +47,7 @@ def audited(own: Own, old: State, program: str, keep: Keep, out: Optional[str], 
         new, given_up = (NOTHING, {}) if follow.carry is None else state_behind(own, first, read_bytes(follow.carry), keep)
         if out is not None and follow.carry is not None:
             os.replace(follow.carry, out)
-    return window_of(own, first, new, untold(program, first).plus(told), given_up, is_final or out is not None, said)
+    return window_of(own, first, new, report_of_waiting(program, first).plus(told), given_up, is_final or out is not None, said)
 
 
 def state_behind(own: Own, old: State, data: bytes, keep: Keep) -> tuple[State, dict[int, int]]:
@@ -66,7 +66,7 @@ def carried_by(own: Own, old: State, carry: Carry) -> dict[int, bytes]:
     return {**{line: raw for line, raw in old.carried.items() if line in wanted}, **own.numbered(old.lines, wanted)}
 
 
-def window_of(own: Own, old: State, new: State, told: Told, given_up: dict[int, int], is_handed_on: bool, said: Optional[Coverage]) -> Audited:
+def window_of(own: Own, old: State, new: State, told: RunReport, given_up: dict[int, int], is_handed_on: bool, said: Optional[Coverage]) -> Audited:
     waiting = told.open - len(given_up)
     if new.carry is not None and waiting != len(new.waiting):
         raise WindowFault("the program says that %d entries wait, and its carry has %d" % (told.open, len(new.waiting) + len(given_up)))
@@ -78,7 +78,7 @@ def window_of(own: Own, old: State, new: State, told: Told, given_up: dict[int, 
     return found._replace(report=report.covered(coverage_before(found, own, said)))
 
 
-def unknown_in(old: State, new: State, told: Told) -> set[int]:
+def unknown_in(old: State, new: State, told: RunReport) -> set[int]:
     """The entries that are told now and name a version that is not known, since versions were let go: the program says so when an entry comes,
     and one that waits is told later."""
     if old.head.let_go is None:

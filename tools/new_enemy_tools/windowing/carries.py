@@ -9,8 +9,8 @@ from hashlib import sha256
 from typing import Iterable, Iterator, NamedTuple, Optional
 
 from new_enemy_tools import strictjson
+from new_enemy_tools.faults import WindowFault
 from new_enemy_tools.trace_lines import Pair, quick_commit, quick_touch
-from new_enemy_tools.windowing.window_faults import WindowFault
 
 FIRST = b"new_enemy carry 1\n"
 # The last line: this, the checksum of all before it, and a newline.

@@ -8,12 +8,11 @@ import json
 import os
 import re
 import shutil
-from hashlib import blake2b
 from typing import Any, BinaryIO, Iterator, NamedTuple, Optional, Sequence
 
+from new_enemy_tools.faults import WindowFault
 from new_enemy_tools.labels import Labels
 from new_enemy_tools.windowing.state import CARRY, FILES, OLD_STATE, State, seal_in
-from new_enemy_tools.windowing.window_faults import WindowFault
 
 WORK = "work"
 INDEX, PAGE = "index.html", "report.html"
@@ -22,7 +21,6 @@ MAIL = "mail.txt"
 # So many days before are told beside a day.
 COMPARED = 3
 DAY = re.compile("day[0-9]{6,}")
-PIECE = 1 << 20
 # What a day goes on from; the last two days have it. Of joined logs JOIN says what the days so far have of each; OLD_STATE is what days of
 # earlier versions have in place of a carry.
 JOIN = "joined"
@@ -197,13 +195,3 @@ def to_disk(path: str) -> None:
         os.fsync(place)
     finally:
         os.close(place)
-
-
-def digest_of(paths: list[str]) -> str:
-    """The checksum of some files, one behind the other."""
-    found = blake2b(digest_size=16)
-    for path in paths:
-        with open(path, "rb") as file:
-            while piece := file.read(PIECE):
-                found.update(piece)
-    return found.hexdigest()

@@ -10,13 +10,12 @@ from contextlib import suppress
 from typing import IO, Callable, Iterator, NamedTuple, Optional
 
 from new_enemy_tools import limits
-from new_enemy_tools.faults import DeviceFault
+from new_enemy_tools.faults import DeviceFault, WindowFault
 from new_enemy_tools.findings import ON_TOKENS, Finding, finding_of
 from new_enemy_tools.parting.blocks import Blocks
 from new_enemy_tools.trace_lines import COMMIT_START
 from new_enemy_tools.windowing.own_lines import Own
 from new_enemy_tools.windowing.state import State
-from new_enemy_tools.windowing.window_faults import WindowFault
 
 # A run reads at most so many bytes, but for its last line.
 STRETCH = limits.INPUT_BYTES // 2
@@ -36,7 +35,7 @@ class Refused(Exception):
         self.status, self.error = status, error
 
 
-class Told(NamedTuple):
+class RunReport(NamedTuple):
     """What runs told, by the lines of the log: in the order in which they told it."""
 
     findings: list[Finding]
@@ -45,11 +44,11 @@ class Told(NamedTuple):
     open: int
     entries: int
 
-    def plus(self, other: "Told") -> "Told":
-        return Told(self.findings + other.findings, {**self.below, **other.below}, other.open, self.entries + other.entries)
+    def plus(self, other: "RunReport") -> "RunReport":
+        return RunReport(self.findings + other.findings, {**self.below, **other.below}, other.open, self.entries + other.entries)
 
 
-def told_by(output: str, status: int, is_whole: bool = False) -> Told:
+def run_report_of(output: str, status: int, is_whole: bool = False) -> RunReport:
     """Reads what a run wrote, or one over a whole log, which begins with no carry and leaves none; raises WindowFault where that is something else."""
     findings: list[Finding] = []
     below: dict[int, int] = {}
@@ -69,7 +68,7 @@ def told_by(output: str, status: int, is_whole: bool = False) -> Told:
     if VERDICT.get(verdict.partition("verdict ")[2]) != status or set(sums) != wanted or sums["findings"] != len(findings) \
             or sums.get("not audited", 0) != len(below):
         raise WindowFault("what the program wrote is not the whole of a run, and it ended with %d" % status)
-    return Told(findings, below, sums.get("open", 0), sums["entries"])
+    return RunReport(findings, below, sums.get("open", 0), sums["entries"])
 
 
 class Follow:
@@ -92,9 +91,9 @@ class Follow:
         self.runs += 1
         return os.path.join(self.folder, "carry%d" % self.runs)
 
-    def all(self, step: Callable[[int], None]) -> Told:
+    def all(self, step: Callable[[int], None]) -> RunReport:
         """What is told of all own lines; `carry` is that behind them then. `step` is told how many bytes were read."""
-        found: Optional[Told] = None
+        found: Optional[RunReport] = None
         blocks = self._blocks(step)
         block: Optional[bytes] = next(blocks, b"")
         while block is not None:
@@ -103,7 +102,7 @@ class Follow:
         assert found is not None
         return found
 
-    def final(self, step: Callable[[int], None]) -> Told:
+    def final(self, step: Callable[[int], None]) -> RunReport:
         """The same where no more lines come, and so nothing waits any longer."""
         if self.carry is None and self.own.size <= STRETCH:
             blocks = self._blocks(step)
@@ -127,7 +126,7 @@ class Follow:
             if blocks.too_long:
                 yield blocks.too_long
 
-    def _run(self, block: bytes, blocks: Iterator[bytes], out: Optional[str]) -> tuple[Told, Optional[bytes]]:
+    def _run(self, block: bytes, blocks: Iterator[bytes], out: Optional[str]) -> tuple[RunReport, Optional[bytes]]:
         """What a run tells of a block and of those behind it, as many as a run may read; and the first that it was not given, if any."""
         before, given = self.lines, 0
         more: Optional[bytes] = block
@@ -145,7 +144,7 @@ class Follow:
                     # Else what was not written would be tried again.
                     with suppress(BrokenPipeError):
                         process.stdin.close()
-            told = self._told(process.returncode, _text_of(output), _text_of(error), before, self.carry is None and out is None)
+            told = self._report_of(process.returncode, _text_of(output), _text_of(error), before, self.carry is None and out is None)
         if not is_read:
             raise WindowFault("%s ended before it had read all lines" % self.program)
         self.carry, self.left = out, self.left - given
@@ -161,7 +160,7 @@ class Follow:
         except OSError as fault:
             raise DeviceFault("cannot run %s: %s" % (self.program, fault.strerror)) from None
 
-    def _told(self, status: int, output: str, error: str, before: int, is_whole: bool) -> Told:
+    def _report_of(self, status: int, output: str, error: str, before: int, is_whole: bool) -> RunReport:
         if status < 0:
             raise WindowFault("%s was killed by signal %d" % (self.program, -status))
         if error.startswith(NO_CARRY):
@@ -169,23 +168,23 @@ class Follow:
         if status not in VERDICT.values():
             found = REFUSED.fullmatch(error)
             raise Refused(status, error if found is None else "trace line %d: %s\n" % (before + int(found[1]), found[2]))
-        return told_by(output, status, is_whole)
+        return run_report_of(output, status, is_whole)
 
 
-def untold(program: str, state: State) -> Told:
+def report_of_waiting(program: str, state: State) -> RunReport:
     """What would have been told already of the entries that wait in a state, had it been a run that left it: what their lines let tell, and the
     commits behind them."""
     rows = state.untold
     if not any(row.kind == "h" for row in rows):
-        return Told([], {}, 0, 0)
+        return RunReport([], {}, 0, 0)
     with tempfile.NamedTemporaryFile() as file:
         file.writelines(row.raw + b"\n" for row in rows)
         file.flush()
         ended = subprocess.run([program, "follow", file.name], stdin=subprocess.DEVNULL, stdout=subprocess.PIPE, stderr=subprocess.PIPE, check=False)
     if ended.returncode not in VERDICT.values():
         raise Refused(ended.returncode, ended.stderr.decode("utf-8", "replace"))
-    found = told_by(ended.stdout.decode("utf-8", "replace"), ended.returncode, True).findings
-    return Told([one._replace(line=rows[one.line - 1].line, related=None if one.related is None else rows[one.related - 1].line)
+    found = run_report_of(ended.stdout.decode("utf-8", "replace"), ended.returncode, True).findings
+    return RunReport([one._replace(line=rows[one.line - 1].line, related=None if one.related is None else rows[one.related - 1].line)
                  for one in found if one.finding in ON_TOKENS and rows[one.line - 1].kind == "h"], {}, 0, 0)
 
 

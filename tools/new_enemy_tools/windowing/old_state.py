@@ -15,10 +15,10 @@ from hashlib import blake2b
 from io import BytesIO
 from typing import Any, Iterable, Iterator
 
+from new_enemy_tools.faults import WindowFault
 from new_enemy_tools.files import read_bytes
 from new_enemy_tools.windowing.carries import Item, carry_of, commit, declaration, entry, touched_by
 from new_enemy_tools.windowing.state import Head, Row, State
-from new_enemy_tools.windowing.window_faults import WindowFault
 
 FORMAT = 1
 START = b'{"new_enemy_state":'

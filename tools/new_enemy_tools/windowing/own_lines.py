@@ -4,10 +4,10 @@ from functools import reduce
 from typing import BinaryIO, Iterator, Optional
 
 from new_enemy_tools import limits, trace_lines
+from new_enemy_tools.faults import WindowFault
 from new_enemy_tools.parting.blocks import Blocks
-from new_enemy_tools.pieces import START
 from new_enemy_tools.trace_lines import Counted, commit_at, counted_in, kind_of
-from new_enemy_tools.windowing.window_faults import WindowFault
+from new_enemy_tools.trace_pieces import START
 
 # A line of the log: its number, and its bytes.
 Numbered = tuple[int, bytes]

@@ -10,9 +10,9 @@ from functools import cached_property
 from hashlib import blake2b
 from typing import Any, Iterator, NamedTuple, Optional, Sequence
 
+from new_enemy_tools.faults import WindowFault
 from new_enemy_tools.files import read_bytes
 from new_enemy_tools.windowing.carries import Carry, Item, adds_as, raw_of
-from new_enemy_tools.windowing.window_faults import WindowFault
 
 CARRY, CARRIED, HEAD = "carry", "carried", "window.json"
 FILES = (CARRY, CARRIED, HEAD)

@@ -1,14 +1,14 @@
 """The findings of a window with their effects, as `ne report` tells them; lines are those of the log."""
 from typing import NamedTuple, Optional
 
-from new_enemy_tools.audited import AuditedTrace, Numbered
+from new_enemy_tools.audit_summary import Telling, telling_of, told_of
+from new_enemy_tools.audited_trace import AuditedTrace, Numbered
 from new_enemy_tools.faults import ToolFault
 from new_enemy_tools.findings import ON_TOKENS, Report
-from new_enemy_tools.forms import FORMS, group_lines
 from new_enemy_tools.ids import Ids
 from new_enemy_tools.labels import labels_of
 from new_enemy_tools.names import Names
-from new_enemy_tools.telling import Telling, telling_of, told_of
+from new_enemy_tools.report_forms import FORMS, group_lines
 from new_enemy_tools.trace import Trace, read_lines
 from new_enemy_tools.trace_lines import (CHECK_START as CHECK, COMMIT_START as COMMIT, CONTENT_START as CONTENT, NAMESPACE_START as NAMESPACE, OtherForm,
                                          may_issue, refuse_other_keys)

@@ -5,7 +5,7 @@ from typing import Callable, Iterable, Iterator, NamedTuple, Optional
 from new_enemy_tools.coverage import INCOMPLETE, Coverage
 from new_enemy_tools.findings import Finding
 from new_enemy_tools.importing import causes
-from new_enemy_tools.windowing.following import Told
+from new_enemy_tools.windowing.following import RunReport
 
 
 class Left(NamedTuple):
@@ -70,7 +70,7 @@ def text_of(finding: Finding) -> str:
                                    "" if finding.step is None else " at step %d" % finding.step)
 
 
-def window_report_of(told: Told, given_up: dict[int, int], unknown: set[int], entries: int, held: int, is_handed_on: bool) -> WindowReport:
+def window_report_of(told: RunReport, given_up: dict[int, int], unknown: set[int], entries: int, held: int, is_handed_on: bool) -> WindowReport:
     """What runs told, of entries of which some waited too long, and some name versions that are not known since versions were let go."""
     not_audited = {line: Left(causes.SNAPSHOT_TOO_OLD, "its snapshot is older than %d, where the state begins" % base) for line, base in told.below.items()}
     not_audited.update((line, Left(causes.NO_COMMIT_CAME, "no commit has come to its snapshot %d" % snapshot)) for line, snapshot in given_up.items())

@@ -21,5 +21,5 @@ loop-before-preserved c = λ declaring.
           let unwanted : c.in_ok-is_wanted.field-0 ≡ false = search rules in
           subst (AreWanted s tupleset names (n + 1)) (sym w.wanted-is)
           (next_wanted s tupleset names n c.loop-before.wanted c.loop-before.wanted before (λ k has. has)
-          (λ g k is read matters. absurd (matters.1 (c.in_ok-is_wanted.ensures declaring unwanted g k matters.0 is read))))
+          (λ g k is read matters. absurd (c.in_ok-is_wanted.ensures declaring unwanted g k is read matters)))
     ]

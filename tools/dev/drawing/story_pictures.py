@@ -1,5 +1,5 @@
 """The pictures that tell a story. Their words are those of the documents that show them."""
-from drawing.shapes import Picture
+from drawing.svg import Picture
 
 
 def the_story() -> Picture:

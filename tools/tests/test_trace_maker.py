@@ -254,14 +254,17 @@ class Refusals(CoreCase):
                {"event": "rules", "namespaces": [{"name": "a", "relations": []}] * 2},
                {"event": "rules", "namespaces": [{"name": "a", "relations": [{"name": "b"}] * 2}]},
                {"event": "rules", "namespaces": [{"name": "a", "relations": [{"name": "b", "rewrite": {}}]}]},
-               {"event": "rules", "namespaces": [{"name": "a", "relations": [{"name": "b", "rewrite": {"computed": "c"}}]}]}]
+               {"event": "rules", "namespaces": [{"name": "a", "relations": [{"name": "b", "rewrite": {"computed": "c"}}]}]},
+               *({"event": "unmapped", "reason": "caveat", "userset": one} for one in (["doc", 1, "viewer"], [None, "1", "viewer"])),
+               {"event": "unmapped", "reason": "caveat", "version": ["doc", None, "v"]}]
         wanted = ["`event` is none of rules, write, check, content"] * 2 + [
             "`revision` is no whole number", "add[0] is no list of 5 or 6 texts", "a base state removes nothing",
             *["`add` is no list"] * 4, "`remove` is no list", "`snapshot` is no whole number", "`reply` is neither true nor false",
             "`goal` is no list of 5 texts", "`version` is no text", "`token` is no whole number",
             "`file` is no text or `line` no whole number", "`namespaces` is no list", "namespaces[0] has no name or no relations",
             "a relation of namespaces[0] has no name", "namespace a stands twice", "relation a#b stands twice",
-            "the rewrite of b has none of the six forms", "a#b reads c, which a does not declare"]
+            "the rewrite of b has none of the six forms", "a#b reads c, which a does not declare",
+            *["`userset` is no list of three texts"] * 2, "`version` is no list of three texts"]
         self.assertEqual(self.refusals(*bad), ["log:%d: %s" % one for one in enumerate(wanted, 1)])
 
     def test_rules(self):

@@ -2,13 +2,13 @@
 import re
 from typing import Optional
 
-from hostile.answers import Answer
+from hostile.program_runs import Answer
 from new_enemy_tools.evidence import check_evidence, records_of
 from new_enemy_tools.files import split_joined
 from new_enemy_tools.judging import judge
 from new_enemy_tools.meaning import Settled
-from new_enemy_tools.token_order import order_lines
 from new_enemy_tools.strictjson import Object
+from new_enemy_tools.token_order import order_lines
 from new_enemy_tools.trace import Fault, Trace, read_trace
 
 

@@ -11,16 +11,15 @@ from threading import Thread
 from typing import Any, Iterable, NamedTuple, Optional
 
 from new_enemy_tools.commands.day import write_index
-from new_enemy_tools.faults import DeviceFault
-from new_enemy_tools.monitoring.core import BeginAnew, Core, EndRun, Feed, Keep, Out, Settings
+from new_enemy_tools.faults import DeviceFault, MonitorFault
 from new_enemy_tools.monitoring.exposition import Before, exposition
-from new_enemy_tools.monitoring.faults import MonitorFault
 from new_enemy_tools.monitoring.follower import Ended, Follower, Said
 from new_enemy_tools.monitoring.holding import Holding
 from new_enemy_tools.monitoring.joined import STATE, JoinedLog, Several
 from new_enemy_tools.monitoring.journal import Journal
 from new_enemy_tools.monitoring.live_page import SILENT, Live, live_of, page_of
 from new_enemy_tools.monitoring.marks import Mark
+from new_enemy_tools.monitoring.pure_monitor import BeginAnew, Core, EndRun, Feed, Keep, Out, Settings
 from new_enemy_tools.monitoring.receivers import Answered, Receiver, Teller
 from new_enemy_tools.monitoring.run import Run
 from new_enemy_tools.monitoring.run_files import RunFile, ended, keep, start_of, untold_by, words_of
@@ -120,7 +119,7 @@ class Machine:
         if status not in VERDICT.values():
             if self.is_stopping:
                 return
-            raise MonitorFault("the program refuses the trace: %s" % self.follower.fault())
+            raise self.follower.fault()
         self._do(self.core.tell(now, True))
         self._do(self.core.look_at_loss())
         self.journal.sync()
@@ -206,7 +205,7 @@ class Machine:
         elif isinstance(message, Ended) and message.by is self.follower:
             # Who tells the monitor to stop may have told the program too.
             if not self.run.is_closed and not self.is_stopping:
-                raise MonitorFault("the program refuses the trace: %s" % message.by.fault())
+                raise message.by.fault()
 
     # What is to be done
 

@@ -18,16 +18,16 @@ from new_enemy_tools.importing.doubts import Circles, Doubts
 from new_enemy_tools.importing.events import Entry, Event
 from new_enemy_tools.importing.first_pass import Taken
 from new_enemy_tools.importing.going_on import Left
+from new_enemy_tools.importing.import_summary import Counts, Written
 from new_enemy_tools.importing.newest import put_newest
 from new_enemy_tools.importing.order import in_order, is_before_base
-from new_enemy_tools.importing.packed import Kept, Packed
+from new_enemy_tools.importing.packed_blocks import Packed, StoredBlock
 from new_enemy_tools.importing.prefetching import Ahead
 from new_enemy_tools.importing.refusals import Refusals
 from new_enemy_tools.importing.spool import BATCH, CHECKS, Facts, Lines
 from new_enemy_tools.importing.strata import Edges, choose, open_circles
 from new_enemy_tools.importing.trace_texts import Shown
 from new_enemy_tools.importing.wildcards import Wildcards
-from new_enemy_tools.importing.writing import Counts, Written
 from new_enemy_tools.parting.sharing import shared
 from new_enemy_tools.progress import Progress
 from new_enemy_tools.texts import Tuple, Userset, parse_tuple
@@ -58,10 +58,10 @@ class GoesOn:
         self.left: Optional[Left] = None
 
 
-def _kept_in(batch: bytes) -> Union[Kept, list[tuple[Any, ...]]]:
+def _stored_in(batch: bytes) -> Union[StoredBlock, list[tuple[Any, ...]]]:
     """What a batch of kept lines has: a block, or rows."""
     found = marshal.loads(batch)
-    return Kept(*found) if isinstance(found, tuple) else found
+    return StoredBlock(*found) if isinstance(found, tuple) else found
 
 
 class Core:
@@ -94,17 +94,27 @@ class Core:
             self.taken.refusals = self.refusals
         else:
             self._take_all(given, lines, wildcards)
-        names = [(name, relation) for name in self.declared.rules.current for relation in self.declared.rules.relations(name)]
-        self._open_circles(names)
-        strata = choose(names, self.edges, self.refusals)
+        strata = self._chosen_strata()
         if self.refusals.refused:
             return None
-        shown, before = Shown(self.declared, self.ids, strata, self._times(strata), self.taken.demanded), self._before
-        if before is None:
+        shown = self._shown_by(strata)
+        self._begin_lines(shown, strata)
+        return Written(self._chunks(shown, jobs), self.counts, lambda: chain(wildcards.summary_lines(), self.taken.states.summary_lines()))
+
+    def _chosen_strata(self) -> dict[Name, int]:
+        names = [(name, relation) for name in self.declared.rules.current for relation in self.declared.rules.relations(name)]
+        self._open_circles(names)
+        return choose(names, self.edges, self.refusals)
+
+    def _shown_by(self, strata: dict[Name, int]) -> Shown:
+        return Shown(self.declared, self.ids, strata, self._times(strata), self.taken.demanded)
+
+    def _begin_lines(self, shown: Shown, strata: dict[Name, int]) -> None:
+        """Of a trace that begins the rules, and of one that goes on what has another stratum now."""
+        if self._before is None:
             shown.begin()
         else:
-            shown.go_on(going_on.has_other_strata(before, strata))
-        return Written(self._chunks(shown, jobs), self.counts, lambda: chain(wildcards.told(), self.taken.states.told()))
+            shown.go_on(going_on.has_other_strata(self._before, strata))
 
     def _open_circles(self, names: list[Name]) -> None:
         """Leaves tuples out through which a relation takes away what it rests on; a trace has no form for them. What rests on them is in doubt."""
@@ -245,7 +255,7 @@ class Core:
 
     # The second time
 
-    def _kept(self) -> Iterator[bytes]:
+    def _stored_batches(self) -> Iterator[bytes]:
         """The batches of the spool, without checks that hang on what was left out, and versions that are not known by all lines."""
         refusals, doubts = self.refusals, self._doubts()
         self._spread(doubts)
@@ -253,13 +263,13 @@ class Core:
             yield from self.taken.items.batches()
             return
         for batch in self.taken.items.batches():
-            found = _kept_in(batch)
+            found = _stored_in(batch)
             labels = {label for _, _, label in refusals.versions}
-            if isinstance(found, Kept) and labels.isdisjoint(look[4] for look in found.checks.looks) and not doubts.has_any(found.checks):
+            if isinstance(found, StoredBlock) and labels.isdisjoint(look[4] for look in found.checks.looks) and not doubts.has_any(found.checks):
                 if not any(self._may_change(row, doubts) for _, row in found.among(self._is_end, self.writer.commit_of)):
                     yield batch
                     continue
-            rows = list(found.rows(self._is_end, self.writer.commit_of) if isinstance(found, Kept) else found)
+            rows = list(found.rows(self._is_end, self.writer.commit_of) if isinstance(found, StoredBlock) else found)
             yield marshal.dumps([row for row in (self._kept_row(one, doubts) for one in rows) if row])
 
     def _is_end(self, revision: int) -> bool:
@@ -330,7 +340,7 @@ class Core:
             # What the first line says is not for the processes that make the others.
             first, shown.mark = shown.mark, ""
             self.ids.is_closed = True
-            for piece, counts in shared(partial(self._piece, shown), self._kept(), jobs):
+            for piece, counts in shared(partial(self._piece, shown), self._stored_batches(), jobs):
                 self.counts.merge(counts)
                 self.progress.step("wrote %s events", self.counts.count)
                 if first and piece:
@@ -341,24 +351,24 @@ class Core:
             return
         self.taken.states.take_rules(shown.declarations(self.declared))
         self.taken.states.revisions.sort()
-        texts = self._texts((row for batch in self._kept() for row in marshal.loads(batch)), shown, self.counts)
+        texts = self._texts((row for batch in self._stored_batches() for row in marshal.loads(batch)), shown, self.counts)
         while some := list(islice(texts, BATCH)):
             yield "".join(some).encode()
 
     def _piece(self, shown: Shown, batch: bytes) -> tuple[bytes, Counts]:
-        counts, found = Counts(), _kept_in(batch)
-        texts = self._block_texts(found, shown, counts) if isinstance(found, Kept) else self._texts(found, shown, counts)
+        counts, found = Counts(), _stored_in(batch)
+        texts = self._block_texts(found, shown, counts) if isinstance(found, StoredBlock) else self._texts(found, shown, counts)
         return "".join(texts).encode(), counts
 
-    def _block_texts(self, kept: Kept, shown: Shown, counts: Counts) -> list[str]:
+    def _block_texts(self, stored: StoredBlock, shown: Shown, counts: Counts) -> list[str]:
         """The lines of many checks, and of what stands among them."""
-        checks = kept.checks
+        checks = stored.checks
         made, done = shown.checks(checks), 0
         counts.has_token |= any(look[3] is not None for look in checks.looks)
         counts.has_named |= any(look[4] is not None for look in checks.looks)
         counts.take_times(checks.times)
         texts: list[str] = []
-        for at, row in chain(kept.among(self._is_end, self.writer.commit_of), ((len(made), None),)):
+        for at, row in chain(stored.among(self._is_end, self.writer.commit_of), ((len(made), None),)):
             counts.checks += at - done
             texts += made[done:at]
             done = at

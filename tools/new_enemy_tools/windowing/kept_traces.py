@@ -6,11 +6,11 @@ import re
 from itertools import chain
 from typing import NamedTuple, Optional
 
+from new_enemy_tools.compressed_files import ENDS, pack, packed_at, unpacked
 from new_enemy_tools.coverage import Coverage, of_row
 from new_enemy_tools.faults import ToolFault
 from new_enemy_tools.findings import Finding, Report, finding_of
 from new_enemy_tools.labels import Labels
-from new_enemy_tools.packing import ENDS, pack, packed_at, unpacked
 from new_enemy_tools.progress import Progress
 from new_enemy_tools.trace import Trace, read_lines
 from new_enemy_tools.trace_lines import ids_in

@@ -21,9 +21,6 @@ def time_of(seconds: float) -> str:
 class Form:
     """`lines` gives those of an event; `number` counts calls, and `random` draws what a line has beside."""
 
-    rules_name = ""
-    service = ""
-
     def __init__(self, seed: int):
         self.random, self.number = Random(seed), 0
 
@@ -141,7 +138,7 @@ class SpiceDb(Form):
         return given[2] + "_of" if given[0] == "document" else given[2]
 
     def relationship(self, given: Given) -> Line:
-        subject = {"object": self.thing(*given[3:5]), "optionalRelation": given[5] or ""}
+        subject: Line = {"object": self.thing(*given[3:5]), "optionalRelation": given[5] or ""}
         return {"resource": self.thing(*given[:2]), "relation": self.relation(given), "subject": subject, "optionalCaveat": None,
                 "optionalExpiresAt": None}
 
@@ -182,7 +179,7 @@ class SpiceDbLog(SpiceDb):
                 "requestID": call_id, "grpc.start_time": time_of(self.now()), **more, "time": time_of(self.now()), "message": message}
 
     def relationship(self, given: Given) -> Line:
-        subject = {"object": self.thing(*given[3:5]), **({"optional_relation": given[5]} if given[5] else {})}
+        subject: Line = {"object": self.thing(*given[3:5]), **({"optional_relation": given[5]} if given[5] else {})}
         return {"resource": self.thing(*given[:2]), "relation": self.relation(given), "subject": subject}
 
     def asked(self, service: str, call: str, request: Line, response: Line, added: Optional[Line] = None) -> Iterator[Line]:

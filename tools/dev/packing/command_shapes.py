@@ -8,7 +8,7 @@ from typing import Iterator, NamedTuple, NoReturn, Optional, Union
 
 from new_enemy_tools.commands import ne
 from new_enemy_tools.commands.running import Parser
-from packing.faults import PackageFault
+from packing.package_faults import PackageFault
 
 
 class Option(NamedTuple):

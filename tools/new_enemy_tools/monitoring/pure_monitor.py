@@ -11,6 +11,7 @@ from collections import Counter, deque
 from datetime import timezone, tzinfo
 from typing import Iterable, Iterator, Mapping, NamedTuple, Optional, Union
 
+from new_enemy_tools.audit_summary import Telling
 from new_enemy_tools.coverage import Coverage
 from new_enemy_tools.monitoring.alerts import Alert, Known, Row, Stories, line_of
 from new_enemy_tools.monitoring.delivery import Delivery, Send
@@ -18,7 +19,6 @@ from new_enemy_tools.monitoring.holding import Holding
 from new_enemy_tools.monitoring.midnights import midnight_after
 from new_enemy_tools.monitoring.run import Run
 from new_enemy_tools.monitoring.stream import Chunk, NewStrata
-from new_enemy_tools.telling import Telling
 
 
 class Settings(NamedTuple):
@@ -179,7 +179,7 @@ class Core:
 
     def tell(self, now: float, is_end: bool = False) -> Iterator[Out]:
         """The alerts of what was found."""
-        telling = self.run.told(now, is_end)
+        telling = self.run.ready_findings(now, is_end)
         if telling is not None:
             yield from self._taken(telling, now)
         yield from self._put(self.stories.again(self.next, self.settings.again, now, is_end))

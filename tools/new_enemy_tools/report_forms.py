@@ -3,12 +3,12 @@ import re
 from typing import Callable, Iterator, NamedTuple, Optional
 
 from new_enemy_tools import strictjson, texts
+from new_enemy_tools.audit_summary import Telling
 from new_enemy_tools.baseline import asked_of, key_of, key_with
 from new_enemy_tools.effects import MEANT, RatedFinding
 from new_enemy_tools.entries import Entry
 from new_enemy_tools.groups import Group
 from new_enemy_tools.shown import plain
-from new_enemy_tools.telling import Telling
 
 Row = dict[str, object]
 LEVELS = {"error": "error", "warning": "warning", "note": "notice"}
@@ -53,22 +53,18 @@ def row_of(telling: Telling, told: RatedFinding) -> Row:
            "related_at": None if finding.related is None else telling.trace.at_of(finding.related), "step": finding.step,
            "from": entry.source, "file": log and log.file, "file_line": log and log.line, "revision": entry.revision, "time": entry.time,
            "ignored_at": change and change.at, "ignored_since": change and change.time, "new_enemy": told.is_new_enemy or None}
-    return _present(row)
-
-
-def _present(row: Row) -> Row:
-    return {key: value for key, value in row.items() if value is not None}
+    return strictjson.filled(row)
 
 
 def keyed_row_of(telling: Telling, told: RatedFinding, places: Places) -> Row:
     """The same with the number of its group, if it is told, and the key by which a baseline knows it."""
     group = places.get((told.finding.line, told.finding.finding))
-    return {**row_of(telling, told), **_present({"group": group}), "key": key_of(told, telling.names)}
+    return {**row_of(telling, told), **strictjson.filled({"group": group}), "key": key_of(told, telling.names)}
 
 
 def sums_row(telling: Telling) -> Row:
     report, sums = telling.report, telling.sums
-    return _present({"sums": {**sums.requests._asdict(), "distinct": sums.distinct._asdict(), "new_enemies": sums.new_enemies,
+    return strictjson.filled({"sums": {**sums.requests._asdict(), "distinct": sums.distinct._asdict(), "new_enemies": sums.new_enemies,
                               "text": telling.said}, "groups": len(telling.groups), "service": telling.service, "entries": report.entries,
                      "findings": len(report.findings), "told": len(telling.told), "ignored": len(telling.ignored),
                      "known": len(telling.known), "verdict": report.verdict, "named": telling.names.ids is not None,
@@ -131,7 +127,7 @@ class RowTexts:
 
     @staticmethod
     def _head(told: RatedFinding) -> str:
-        return json_of(_present({"finding": told.finding.finding, "text": told.finding.text, "effect": told.effect.word,
+        return json_of(strictjson.filled({"finding": told.finding.finding, "text": told.finding.text, "effect": told.effect.word,
                                "severity": told.effect.severity, "outcome": told.outcome}))[1:-1]
 
     def _texts(self, entry: Entry) -> EntryTexts:
@@ -146,7 +142,7 @@ class RowTexts:
         if entry.source is None and entry.revision is None and entry.time is None:
             return EntryTexts(first, "", asked_of(entry, names))
         log = logged(entry.source)
-        last = json_of(_present({"from": entry.source, "file": log and log.file, "file_line": log and log.line, "revision": entry.revision,
+        last = json_of(strictjson.filled({"from": entry.source, "file": log and log.file, "file_line": log and log.line, "revision": entry.revision,
                                "time": entry.time}))
         return EntryTexts(first, "," + last[1:-1], asked_of(entry, names))
 

@@ -105,13 +105,13 @@ def told_of(trace: Trace, report: Report, step: Callable[[int], None] = lambda c
         entry = _entry_of(number, finding, trace)
         if finding.finding in ON_TOKENS:
             _refuse_other(number, finding, entry, trace)
-        told.append(_told(trace, changes, finding, entry, effects.of(entry, finding.finding)))
+        told.append(_rated(trace, changes, finding, entry, effects.of(entry, finding.finding)))
         if number % STEP == 1:
             step(number)
     return by_effect(told)
 
 
-def _told(trace: Trace, changes: Changes, finding: Finding, entry: Entry, effect: Effect) -> RatedFinding:
+def _rated(trace: Trace, changes: Changes, finding: Finding, entry: Entry, effect: Effect) -> RatedFinding:
     told = RatedFinding(finding, entry, effect, changes.of(entry, finding.finding, effect))
     if told.outcome != "let in" or entry.kind != "check" or entry.issued_on is None or told.change is None:
         return told

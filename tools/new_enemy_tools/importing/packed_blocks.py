@@ -391,7 +391,7 @@ def stood_of(rows: Iterable[Row]) -> Iterator[Stood]:
     return iter(found.values())
 
 
-class Kept:
+class StoredBlock:
     """A block as it is kept for the trace: rows in place of those that were taken by themselves, each with its place among the rows, and how
     many checks stand before it."""
 

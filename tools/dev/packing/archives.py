@@ -7,7 +7,7 @@ import subprocess
 import tarfile
 import zlib
 
-from packing.faults import PackageFault
+from packing.package_faults import PackageFault
 from packing.sources import File, written
 
 

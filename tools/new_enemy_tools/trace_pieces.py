@@ -10,9 +10,8 @@ from contextlib import suppress
 from types import TracebackType
 from typing import TYPE_CHECKING, BinaryIO, Callable, NamedTuple, Optional
 
-from new_enemy_tools.faults import ToolFault
+from new_enemy_tools.faults import PartsFault, ToolFault
 from new_enemy_tools.parting.manifest import MOST_PARTS
-from new_enemy_tools.parting.part_faults import PartsFault
 
 if TYPE_CHECKING:
     from hashlib import blake2b
@@ -34,11 +33,13 @@ def _digest() -> "blake2b":
     return blake2b(digest_size=16)
 
 
-def _digest_of(path: str) -> str:
+def digest_of(*paths: str) -> str:
+    """The checksum of some files, one behind the other."""
     digest = _digest()
-    with open(path, "rb") as file:
-        while data := file.read(BLOCK):
-            digest.update(data)
+    for path in paths:
+        with open(path, "rb") as file:
+            while data := file.read(BLOCK):
+                digest.update(data)
     return digest.hexdigest()
 
 
@@ -155,7 +156,7 @@ class PiecesWriter:
         self._put(self._held, False)
         self._close()
         if len(self.pieces) > 1:
-            self.pieces = [piece._replace(digest=_digest_of(self._beside(number))) for number, piece in enumerate(self.pieces, 1)]
+            self.pieces = [piece._replace(digest=digest_of(self._beside(number))) for number, piece in enumerate(self.pieces, 1)]
 
     def _put(self, data: bytes, has_more: bool) -> None:
         # each time a piece is filled, but for the braces of a line's end

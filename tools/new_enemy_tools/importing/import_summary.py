@@ -95,7 +95,7 @@ class Written:
         counts = self.counts
         return refusals.coverage(counts.checks + counts.contents, counts.in_part, counts.since, counts.until)
 
-    def told(self, coverage: Coverage) -> Iterator[str]:
+    def lines(self, coverage: Coverage) -> Iterator[str]:
         yield "commits %d, checks %d, content checks %d" % (self.counts.commits, self.counts.checks, self.counts.contents)
         yield from () if coverage.is_plain else coverage.lines()
         yield from self.notes()
