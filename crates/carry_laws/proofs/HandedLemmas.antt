@@ -14,6 +14,7 @@ use Rattle.windows.specs.Growth.{HasRisingLines, is_settled}
 use Rattle.windows.proofs.CompactionLemmas.{IsUpTo}
 use Rattle.windows.proofs.CutLemmas as cut
 use Rattle.windows.proofs.WindowLemmas.{every, filter_mapped}
+use Rattle.carry_laws.specs.Asked.{Known}
 use Rattle.carry_laws.specs.Carried.{StandsIn, has_commit_at, lines_above, placeless}
 use Rattle.carry_laws.proofs.ReachLemmas.{any_weaker}
 use Rattle.carry_laws.proofs.StandInLemmas.{bound, first_lines, first_up_to, lines_are, rest_lines, weaker, window, within_bound}
@@ -108,31 +109,37 @@ reaches_base q b (x ∷ xs) h any = by_test (reaches_base q b xs h.1) (leb q x.a
     by_test rest false is any = rest any
 
 -- what is reached by what stands in for a log is reached in the log
-pub reached_back : (b p : ℕ) (u y : TraceValue) → StandsIn b p u y → (m : ℕ)
+pub reached_back : (known : Known) (p : ℕ) (u y : TraceValue) → StandsIn known p u y → (m : ℕ)
     → list_any (λ (d : Commit). leb m d.at) y.commits ≡ true → list_any (λ (d : Commit). leb m d.at) u.commits ≡ true
-reached_back b p u y s m any =
+reached_back known p u y s m any =
     by_front (list_any reaches s.front) refl (sym (ap (list_any reaches) s.commits ∙ list_any-append reaches
-    s.front (above b u.commits)) ∙ any)
+    s.front (above known.base u.commits)) ∙ any)
   where
     reaches : Commit → Bool
     reaches d = leb m d.at
 
     by_front : (z : Bool) → list_any reaches s.front ≡ z
-        → (list_any reaches s.front || list_any reaches (above b u.commits)) ≡ true → list_any reaches u.commits ≡ true
+        → (list_any reaches s.front || list_any reaches (above known.base u.commits)) ≡ true → list_any reaches u.commits ≡ true
     by_front true is any =
-        let le = reaches_base m b s.front (recursion_from_All (IsUpTo b) s.front s.stands.none_above) is in
-        any_weaker (λ (d : Commit). eqb d.at b) reaches (λ d same. le-leb m d.at (let e = eqb-true d.at b same in omega (
+        let le = reaches_base m known.base s.front (recursion_from_All (IsUpTo known.base) s.front s.stands.none_above) is in
+        any_weaker (λ (d : Commit). eqb d.at known.base) reaches (λ d same. le-leb m d.at (let e = eqb-true d.at known.base same in omega (
           arith,
           e,
           le,
         ))) u.commits s.base
-    by_front false is any = any_filtered (λ (d : Commit). ltb b d.at) reaches u.commits (sym (ap (λ (z : Bool). z || list_any
-        reaches (above b u.commits)) is) ∙ any)
+    by_front false is any = any_filtered (λ (d : Commit). ltb known.base d.at) reaches u.commits (sym (ap (λ (z : Bool). z || list_any
+        reaches (above known.base u.commits)) is) ∙ any)
 
 -- ---- two in turn
 
-module _ (b p c q : ℕ) (u y x : TraceValue) (of_u : HasRisingLines u) (of_y : HasRisingLines y) (s : StandsIn b p u y) (r : StandsIn c
-    q y x) (later : b ≤ c) where
+module _ (known further : Known) (p q : ℕ) (u y x : TraceValue) (of_u : HasRisingLines u) (of_y : HasRisingLines y) (s : StandsIn
+    known p u y) (r : StandsIn further q y x) (later : known.base ≤ further.base) (fewer : known.versions ≤ further.versions) where
+  abbrev b : ℕ
+  b = known.base
+
+  abbrev c : ℕ
+  c = further.base
+
   -- the line from which on both stand in
   abbrev last : ℕ
   last = max p q
@@ -153,17 +160,17 @@ module _ (b p c q : ℕ) (u y x : TraceValue) (of_u : HasRisingLines u) (of_y : 
       (omega (arith, lt, later))) u.commits
 
   abbrev first : List CommitLine
-  first = first_lines b p u y s
+  first = first_lines known p u y s
 
   abbrev rest : List CommitLine
-  rest = rest_lines b p u y s
+  rest = rest_lines known p u y s
 
   lines_twice : lines_above c y ≡ lines_above c u
   lines_twice = ap cut.lines_of (
-      ap (filter up) (lines_are b p u y s)
+      ap (filter up) (lines_are known p u y s)
       ∙ filter-append up first rest
       ∙ ap (λ (ds : List CommitLine). ds ++ filter up rest) (none_left up first (weaker (λ (d : CommitLine). d.at ≤ b) (λ (d :
-      CommitLine). up d ≡ false) (λ d le. le-ltb c d.at (omega (arith, le, later))) first (first_up_to b p u y s)))
+      CommitLine). up d ≡ false) (λ d le. le-ltb c d.at (omega (arith, le, later))) first (first_up_to known p u y s)))
       ∙ twice (λ (d : CommitLine). ltb b d.at) up (λ d is. let lt = leb-true (suc c) d.at is in lt-ltb b d.at (omega (arith, lt, later)))
       (commit_lines_of u))
     where
@@ -183,7 +190,7 @@ module _ (b p c q : ℕ) (u y x : TraceValue) (of_u : HasRisingLines u) (of_y : 
   stands : StandsFor r.front c u.commits
   stands =
       let h : ℕ = c + bound u.commits in
-      cut.handed_on_law (λ l. l) p b h u y (window b p u y s of_u.commits.timestamps of_y.commits.timestamps of_u.commits.counted
+      cut.handed_on_law (λ l. l) p b h u y (window known p u y s of_u.commits.timestamps of_y.commits.timestamps of_u.commits.counted
       of_y.commits.counted h (within_bound h u.commits (omega arith))) of_u.commits.timestamps c later (omega arith) r.front
       r.stands
 
@@ -210,7 +217,7 @@ module _ (b p c q : ℕ) (u y x : TraceValue) (of_u : HasRisingLines u) (of_y : 
   lines_there : (P : CommitLine → Type 0) → All P (commit_lines_of y)
       → AllByRecursion (λ (d : CommitLine). ltb b d.at ≡ true → P d) (commit_lines_of u)
   lines_there P all = unfiltered (λ (d : CommitLine). ltb b d.at) P (commit_lines_of u) (behind_some P first rest
-      (recursion_from_All P (first ++ rest) (subst (All P) (lines_are b p u y s) all)))
+      (recursion_from_All P (first ++ rest) (subst (All P) (lines_are known p u y s) all)))
 
   folded : All (λ (d : CommitLine). d.at ≤ c → d.line < last) (commit_lines_of u)
   folded = All-from_recursion Folded (commit_lines_of u) (each (commit_lines_of u) (lines_there Folded r_folded) (recursion_from_All
@@ -267,7 +274,7 @@ module _ (b p c q : ℕ) (u y x : TraceValue) (of_u : HasRisingLines u) (of_y : 
       unsettled : (d : EntryValue) → placeless d ≡ placeless e → (z : Bool) → is_settled y d ≡ z → is_settled y d ≡ false
       unsettled d same false is = is
       unsettled d same true is =
-          let yes : is_settled u e ≡ true = reached_back b p u y s e.snapshot (ap (λ (f : EntryValue). list_any (λ (k : Commit). leb
+          let yes : is_settled u e ≡ true = reached_back known p u y s e.snapshot (ap (λ (f : EntryValue). list_any (λ (k : Commit). leb
           f.snapshot k.at) y.commits) (sym same) ∙ is) in
           let wrong : false ≡ true = sym unset ∙ yes in absurd cc
 
@@ -285,7 +292,7 @@ module _ (b p c q : ℕ) (u y x : TraceValue) (of_u : HasRisingLines u) (of_y : 
             omega (arith, line, behind_p, behind_q),
           )
 
-  handed : StandsIn c last u x
+  handed : StandsIn further last u x
   handed = record {
     front = r.front;
     front_lines = r.front_lines;
@@ -303,12 +310,13 @@ module _ (b p c q : ℕ) (u y x : TraceValue) (of_u : HasRisingLines u) (of_y : 
     behind = behind_base;
     keeps = record {
       unsettled = unsettled_kept;
-      issuers = λ v e is. ap (λ (z : Bool). z && r.keep e) (s.keeps.issuers v e is) ∙ r.keeps.issuers v e is;
+      issuers = λ v e is from. ap (λ (z : Bool). z && r.keep e) (s.keeps.issuers v e is (omega (arith, from, fewer))) ∙ r.keeps.issuers v e is from;
       by_face = λ e. ap (λ (z : Bool). z && r.keep (placeless e)) (s.keeps.by_face e) ∙ ap (λ (z : Bool). s.keep e && z) (r.keeps.by_face
           e);
     };
   }
 
-pub handed_on_law : (b p c q : ℕ) (u y x : TraceValue) → HasRisingLines u → HasRisingLines y → StandsIn b p u y
-    → StandsIn c q y x → b ≤ c → StandsIn c (max p q) u x
-handed_on_law b p c q u y x of_u of_y s r later = handed b p c q u y x of_u of_y s r later
+pub handed_on_law : (known further : Known) (p q : ℕ) (u y x : TraceValue) → HasRisingLines u → HasRisingLines y
+    → StandsIn known p u y → StandsIn further q y x → known.base ≤ further.base → known.versions ≤ further.versions
+    → StandsIn further (max p q) u x
+handed_on_law known further p q u y x of_u of_y s r later fewer = handed known further p q u y x of_u of_y s r later fewer

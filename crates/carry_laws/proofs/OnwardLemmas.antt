@@ -22,6 +22,7 @@ use Rattle.windows.proofs.WindowLemmas.{by_times}
 use Rattle.follow_laws.specs.Begun.{Begins}
 use Rattle.follow_laws.proofs.OnceLemmas.{below_last}
 use Rattle.follow_laws.proofs.StaysLemmas.{lines_from}
+use Rattle.carry_laws.specs.Asked.{Known}
 use Rattle.carry_laws.specs.Carried.{GoesOnAlike, StandsIn, has_commit_at, lines_above, placeless}
 use Rattle.carry_laws.proofs.ReachLemmas.{any_weaker}
 use Rattle.carry_laws.proofs.StandInLemmas.{kept_all, weaker}
@@ -46,8 +47,11 @@ kept_before n keep (e ∷ es) h = by_test (kept_before n keep es h.1) (keep e)
     by_test rest true = ap (λ (xs : List EntryValue). e ∷ xs) rest
     by_test rest false = rw (le-ltb n e.line h.0) rest
 
-module _ {n : ℕ} (b p : ℕ) (t u x y : TraceValue) (goes : Begins n t u) (s : StandsIn b p t x) (within : p ≤ n + 1) (a : GoesOnAlike
-    goes.goes x y) where
+module _ {n : ℕ} (known : Known) (p : ℕ) (t u x y : TraceValue) (goes : Begins n t u) (s : StandsIn known p t x) (within :
+    p ≤ n + 1) (a : GoesOnAlike goes.goes x y) where
+  abbrev b : ℕ
+  b = known.base
+
   abbrev g : GoesOn n t u
   g = goes.goes
 
@@ -212,7 +216,7 @@ module _ {n : ℕ} (b p : ℕ) (t u x y : TraceValue) (goes : Begins n t u) (s :
       Behind : CommitLine → Type 0
       Behind c = b < c.at → p ≤ c.line
 
-  abbrev pub onward : StandsIn b p u y
+  abbrev pub onward : StandsIn known p u y
   onward = record {
     front = s.front;
     front_lines = s.front_lines;
@@ -232,7 +236,7 @@ module _ {n : ℕ} (b p : ℕ) (t u x y : TraceValue) (goes : Begins n t u) (s :
     behind = behind_base;
     keeps = record {
       unsettled = unsettled_kept;
-      issuers = λ v e is. ap (λ (z : Bool). z || ltb n e.line) (s.keeps.issuers v e is);
+      issuers = λ v e is from. ap (λ (z : Bool). z || ltb n e.line) (s.keeps.issuers v e is from);
       by_face = λ e. ap (λ (z : Bool). z || ltb n e.line) (s.keeps.by_face e);
     };
   }

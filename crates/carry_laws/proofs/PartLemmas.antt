@@ -1,26 +1,22 @@
 -- What a run tells is what the whole log lets tell at its lines, on entries that it audits.
-use Rattle.std.proofs.Common.{◌≡◌, ℕ, zero, suc, ◌+◌, ◌<◌, ◌≤◌, ◌⊎◌, inl, inr, Bool, true, false, cond, leb, List, [], ◌∷◌, ◌++◌, length, map, Option, Some, None, refl, sym, ◌∙◌, ap, subst, arith}
-use Rattle.std.specs.Prelude.{All, filter, slice_get, option_map}
+use Rattle.std.proofs.Common.{◌≡◌, ℕ, zero, suc, ◌+◌, ◌<◌, inl, inr, Bool, true, false, cond, List, [], ◌∷◌, map, Option, Some, None, refl, sym, ◌∙◌, ap, arith}
+use Rattle.std.specs.Prelude.{filter, slice_get, option_map}
 use Rattle.std.specs.List.{AllByRecursion}
-use Rattle.std.proofs.lemmas.Bool.{cases_lt, eqb-true, ne_eqb}
-use Rattle.std.proofs.lemmas.List.Elements.{All-from_recursion, recursion_from_All}
 use Rattle.std.proofs.lemmas.Option.{slice_get-map, slice_get_within}
 use Rattle.marks.proofs.PlacedLemmas.{slice_get-front}
-use Rattle.trace_lines.specs.Values.{EntryValue, TraceValue, next_line}
+use Rattle.trace_lines.specs.Values.{EntryValue, TraceValue}
 use Rattle.evidence_check.specs.Evidences.{steps_of}
 use Rattle.evidence_check.specs.Steps.{StepValue}
-use Rattle.findings.specs.declared.finding.Finding.{Finding}
 use Rattle.windows.specs.Growth.{IsSettled, is_settled}
-use Rattle.follow_laws.specs.Begun.{Begins, IsOfBytes}
-use Rattle.follow_laws.specs.Told.{is_at, settling_line, told_from, told_on}
+use Rattle.follow_laws.specs.Begun.{Begins}
+use Rattle.follow_laws.specs.Told.{is_at, settling_line, told_on}
 use Rattle.follow_laws.proofs.OnceLemmas.{own_line}
-use Rattle.follow_laws.proofs.StaysLemmas.{stays_law}
 use Rattle.follow_laws.proofs.ToldLemmas.{settled_at}
 use Rattle.carry_laws.specs.Asked.{asked}
-use Rattle.carry_laws.specs.Carried.{GoesOnAlike, HaveSameSteps, StandsIn, asked_on, placeless}
+use Rattle.carry_laws.specs.Carried.{asked_on, placeless}
 use Rattle.carry_laws.specs.Together.{IsPart, Part}
 use Rattle.carry_laws.proofs.AlikeLemmas.{told_alike_law}
-use Rattle.carry_laws.proofs.AskLemmas.{asked_longer, one_by_line, told_before_line}
+use Rattle.carry_laws.proofs.AskLemmas.{one_by_line}
 use Rattle.carry_laws.proofs.HandedLemmas.{reached_back}
 use Rattle.carry_laws.proofs.OnwardLemmas.{onward}
 use Rattle.carry_laws.proofs.StepLemmas.{chosen, chosen_there, steps_on, steps_there, told_by_steps}
@@ -87,7 +83,7 @@ same_line e d same = ap (λ (x : EntryValue). x.line) same
 pub same_snapshot : (e d : EntryValue) → placeless e ≡ placeless d → e.snapshot ≡ d.snapshot
 same_snapshot e d same = ap (λ (x : EntryValue). x.snapshot) same
 
-module _ (u : TraceValue) (n : ℕ) (before : TraceValue) (r : Part) (part : IsPart u n before r) where
+module _ (u : TraceValue) (n : ℕ) (before : TraceValue) (from : ℕ) (r : Part) (part : IsPart u n before from r) where
   pub of_whole : (j : ℕ) (d : EntryValue) → slice_get r.log.entries j ≡ Some d → IsOfWhole r.whole d
   of_whole j d at = elim part.known [
     | inl first ↦ record {
@@ -97,7 +93,7 @@ module _ (u : TraceValue) (n : ℕ) (before : TraceValue) (r : Part) (part : IsP
       same = refl;
     }
     | inr begun ↦
-        let z = onward r.base begun.0 before r.whole part.begun r.log part.goes begun.2 begun.1 part.alike in
+        let z = onward r.knows begun.0 before r.whole part.begun r.log part.goes begun.2 begun.1 part.alike in
         let c = copied (filter z.keep r.whole.entries) r.log.entries z.entries j d at in
         let there = kept_stands z.keep r.whole.entries j c.0 c.1 in
         record { place = there.0; entry = c.0; there = there.1; same = c.2 }
@@ -110,8 +106,8 @@ module _ (u : TraceValue) (n : ℕ) (before : TraceValue) (r : Part) (part : IsP
         ap (λ (s : ℕ). is_settled r.whole (record e { snapshot = s })) (same_snapshot e d same)
         ∙ ap (λ (t : TraceValue). is_settled t d) (sym first.1) ∙ settled
     | inr begun ↦
-        let z = onward r.base begun.0 before r.whole part.begun r.log part.goes begun.2 begun.1 part.alike in
-        reached_back r.base begun.0 r.whole r.log z e.snapshot
+        let z = onward r.knows begun.0 before r.whole part.begun r.log part.goes begun.2 begun.1 part.alike in
+        reached_back r.knows begun.0 r.whole r.log z e.snapshot
         (ap (λ (s : ℕ). is_settled r.log (record d { snapshot = s })) (same_snapshot e d same) ∙ settled)
   ]
 
@@ -144,12 +140,12 @@ module _ (u : TraceValue) (n : ℕ) (before : TraceValue) (r : Part) (part : IsP
         settled_then d None is at = cc
         settled_then d (Some l) is at = settled_at r.log d l is
 
-    in_whole : (k : ℕ) → n < k → asked_on r.base r.whole evidence k ≡ asked_on r.base r.log own k
+    in_whole : (k : ℕ) → n < k → asked_on r.knows r.whole evidence k ≡ asked_on r.knows r.log own k
     in_whole k lt = elim part.known [
       | inl first ↦
-          ap (asked r.base r.whole) (same_told first.1)
-          ∙ ap (λ (t : TraceValue). asked r.base t (told_on t own k)) (sym first.1)
-      | inr begun ↦ (told_alike_law n r.base begun.0 before r.whole part.begun r.log part.goes part.shorter begun.2 begun.1
+          ap (asked r.knows r.whole) (same_told first.1)
+          ∙ ap (λ (t : TraceValue). asked r.knows t (told_on t own k)) (sym first.1)
+      | inr begun ↦ (told_alike_law r.knows n begun.0 before r.whole part.begun r.log part.goes part.shorter begun.2 begun.1
           part.alike evidence own (λ i j e d at there on. own_there i j e d at there on)).0 k lt
     ]
       where
@@ -162,5 +158,5 @@ module _ (u : TraceValue) (n : ℕ) (before : TraceValue) (r : Part) (part : IsP
             at_sum i e at = ap (slice_get r.whole.entries) (let z : 0 + i ≡ i = omega arith in z) ∙ at
 
     -- at each line of the run
-    pub told_by_part : (k : ℕ) → n < k → asked r.base r.whole (told_on r.whole evidence k) ≡ asked r.base r.log (told_on r.log r.evidence k)
-    told_by_part k lt = in_whole k lt ∙ ap (asked r.base r.log) (told_own k)
+    pub told_by_part : (k : ℕ) → n < k → asked r.knows r.whole (told_on r.whole evidence k) ≡ asked r.knows r.log (told_on r.log r.evidence k)
+    told_by_part k lt = in_whole k lt ∙ ap (asked r.knows r.log) (told_own k)

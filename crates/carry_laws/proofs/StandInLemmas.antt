@@ -23,6 +23,7 @@ use Rattle.windows.proofs.NearestLemmas.{lines_in_time}
 use Rattle.windows.proofs.WholeLemmas.{same_found, whole_up_to}
 use Rattle.windows.proofs.WindowLemmas.{by_lines, by_times, found_law, open_there}
 use Rattle.follow_laws.specs.Told.{line_reaching, settling_line, moments, at_moments}
+use Rattle.carry_laws.specs.Asked.{Known}
 use Rattle.carry_laws.specs.Carried.{StandsIn, has_commit_at, lines_above}
 use Rattle.carry_laws.proofs.ReachLemmas.{any_on_lines, any_weaker, reached_above, reached_before, reaching_above, reaching_behind}
 
@@ -55,7 +56,10 @@ lines_from p test (c ∷ cs) h = by_test (lines_from p test cs h.1) (test c) ref
     by_test rest true is = (h.0 is, rest)
     by_test rest false is = rest
 
-module _ (b p : ℕ) (t x : TraceValue) (s : StandsIn b p t x) where
+module _ (known : Known) (p : ℕ) (t x : TraceValue) (s : StandsIn known p t x) where
+  abbrev b : ℕ
+  b = known.base
+
   abbrev pub first_lines : List CommitLine
   first_lines = on_lines s.front_lines s.front
 

@@ -1,13 +1,43 @@
--- Findings on entries that ask at a base or above: a log that was begun does not know the store below its base.
-use Rattle.std.specs.Prelude.{◌==◌, ◌||◌, not, nat_le, ℕ, Bool, List, filter}
-use Rattle.std.specs.List.{list_all}
-use Rattle.trace_lines.specs.Values.{TraceValue}
+-- What a run knows of the log in front of it, and findings on the entries that it can judge by that.
+use Rattle.std.specs.Prelude.{◌==◌, ◌&&◌, ◌||◌, not, nat_le, nat_lt, ℕ, Bool, true, List, filter, Option, None, Some}
+use Rattle.std.specs.List.{list_all, list_any}
+use Rattle.trace_lines.specs.Values.{EntryValue, TraceValue}
+use Rattle.trace_lines.specs.Versions.{Version, entry_version, issues, version_named}
 use Rattle.findings.specs.declared.finding.Finding.{Finding}
 
--- an entry on this line, if there is one, asks at the base or above
-abbrev pub is_asked : ℕ → TraceValue → ℕ → Bool
-is_asked base t line = list_all (λ e. not (e.line == line) || nat_le base e.snapshot) t.entries
+-- What is stored is known at a base and above it, and of versions those that were issued from a line on: from line 0 on
+-- these are all.
+pub record Known : Type 0 where
+  pub base : ℕ
+  pub versions : ℕ
+
+-- with all versions, and with all that a log has
+abbrev pub known_from : ℕ → Known
+known_from base = record { base = base; versions = 0 }
+
+abbrev pub all_known : Known
+all_known = known_from 0
+
+-- the entry issued the version, from one line on and in front of another
+abbrev pub issues_between : ℕ → ℕ → Version → EntryValue → Bool
+issues_between from line v x = nat_le from x.line && (nat_lt x.line line && issues v x)
+
+-- no version is named, or one that is known; where some were let go, nobody knows of another whether it was issued
+abbrev pub knows_version : ℕ → List EntryValue → ℕ → Option Version → Bool
+knows_version from es line None = true
+knows_version from es line (Some v) = from == 0 || list_any (issues_between from line v) es
+
+abbrev pub knows_named : ℕ → List EntryValue → EntryValue → Bool
+knows_named from es e = knows_version from es e.line (version_named e.kind (entry_version e))
+
+-- an entry is audited that asks at the base or above, and names no version or a known one
+abbrev pub is_audited : Known → List EntryValue → EntryValue → Bool
+is_audited known es e = nat_le known.base e.snapshot && knows_named known.versions es e
+
+-- so is an entry on this line, if there is one
+abbrev pub is_asked : Known → TraceValue → ℕ → Bool
+is_asked known t line = list_all (λ e. not (e.line == line) || is_audited known t.entries e) t.entries
 
 -- the findings on such entries
-abbrev pub asked : ℕ → TraceValue → List Finding → List Finding
-asked base t found = filter (λ f. is_asked base t f.line) found
+abbrev pub asked : Known → TraceValue → List Finding → List Finding
+asked known t found = filter (λ f. is_asked known t f.line) found

@@ -21,7 +21,7 @@ use Rattle.monitor.proofs.RunLemmas.{none_between, to_last}
 use Rattle.audit.specs.Made.{IsMade}
 use Rattle.follow.specs.Heartbeats.{AreSettledTo, IsThrough}
 use Rattle.follow.specs.SoFar.{IsFollowed, TellsFromSame}
-use Rattle.carry_laws.specs.Asked.{asked, is_asked}
+use Rattle.carry_laws.specs.Asked.{asked, is_asked, known_from}
 use Rattle.follow.specs.declared.follower.Follower.{Follower}
 
 -- an entry more is settled
@@ -93,7 +93,7 @@ told_behind t placed good m ended first low =
 -- further lines were taken, and of what was found there what is asked was told
 pub further_followed : (t : TraceValue) (f g : Follower) → IsFollowed t f → (found : List Finding)
     → TellsMore IsMade t f.monitor g.monitor [] found → Stands t g.monitor → TellsFromSame f g → g.settled ≡ f.settled
-    → g.told.items ≡ f.told.items ++ asked f.base t found → IsFollowed t g
+    → g.told.items ≡ f.told.items ++ asked (known_from f.base) t found → IsFollowed t g
 further_followed t f g followed found more stands same settled told = record {
   stands = stands;
   all = followed.all ++ more.more;
@@ -101,10 +101,10 @@ further_followed t f g followed found more stands same settled told = record {
       (more.told f.first [] followed.all followed.told);
   asked_alone =
       told
-      ∙ ap (λ (fs : List Finding). fs ++ asked f.base t found) followed.asked_alone
-      ∙ ap (λ (fs : List Finding). asked f.base t followed.all ++ asked f.base t fs) more.behind
-      ∙ sym (filter-append (λ (x : Finding). is_asked f.base t x.line) followed.all more.more)
-      ∙ ap (λ (b : ℕ). asked b t (followed.all ++ more.more)) (sym same.1);
+      ∙ ap (λ (fs : List Finding). fs ++ asked (known_from f.base) t found) followed.asked_alone
+      ∙ ap (λ (fs : List Finding). asked (known_from f.base) t followed.all ++ asked (known_from f.base) t fs) more.behind
+      ∙ sym (filter-append (λ (x : Finding). is_asked (known_from f.base) t x.line) followed.all more.more)
+      ∙ ap (λ (b : ℕ). asked (known_from b) t (followed.all ++ more.more)) (sym same.1);
   within = let le = followed.within in omega (arith, le, settled);
   settled = λ i e at lt. followed.settled i e at (omega (arith, lt, settled));
 }

@@ -10,7 +10,7 @@ use Rattle.follow_laws.specs.Told.{told_between}
 use Rattle.follow_laws.proofs.OnceLemmas.{own_line}
 use Rattle.std.proofs.lemmas.Bool.{cases_lt}
 use Rattle.std.proofs.lemmas.Option.{slice_get_within}
-use Rattle.carry_laws.specs.Asked.{asked}
+use Rattle.carry_laws.specs.Asked.{asked, known_from}
 use Rattle.monitor.specs.SoFar.{AreAllowedBetween, IsTold, IsUpTo}
 use Rattle.monitor.proofs.GrowthLemmas.{below_last}
 use Rattle.monitor.proofs.RunLemmas.{quiet, settled_apart}
@@ -196,8 +196,8 @@ module _ (k : KeptValue) (base : ℕ) (trace : Reading) (one two three : Writer)
               given = told_all.given;
               made = subst (λ (m : ℕ). AreAllowedBetween IsMade l.log m behind told_all.given) first told_last.1;
               pieces = lines.pieces;
-              told = sym lines.same ∙ lines.followed.asked_alone ∙ ap (λ (b : ℕ). asked b l.log lines.followed.all) low
-                  ∙ ap (asked base l.log) (told_last.0 ∙ ap (λ (m : ℕ). told_between l.log told_all.given m behind) first);
+              told = sym lines.same ∙ lines.followed.asked_alone ∙ ap (λ (b : ℕ). asked (known_from b) l.log lines.followed.all) low
+                  ∙ ap (asked (known_from base) l.log) (told_last.0 ∙ ap (λ (m : ℕ). told_between l.log told_all.given m behind) first);
               beats = are_true_so_far l.log lines.pieces lines.through lines.silent;
               went = ends.text.2 ∙ ap (λ (t : List ℕ). t ++ text) lines.went
                   ∙ append_assoc one.taken (text_of lines.pieces) text

@@ -37,7 +37,7 @@ use Rattle.follow.specs.Running as running
 use Rattle.follow.specs.Running.{Run}
 use Rattle.follow.specs.Lines.{IsSoFar, TellsLines}
 use Rattle.follow.specs.SoFar.{TellsRest}
-use Rattle.carry_laws.specs.Asked.{asked}
+use Rattle.carry_laws.specs.Asked.{asked, known_from}
 use Rattle.follow.specs.Told.{IsToldFrom, IsToldOf}
 use Rattle.follow.specs.declared.follower.Follower.{Follower}
 use Rattle.carry_laws.proofs.AskLemmas.{all_asked, asked_of_base}
@@ -133,7 +133,7 @@ module _ (used start taken : List ℕ) (f g : Follower) (k : KeptValue) (v : Ind
   t = k.log
 
   abbrev rest : List Finding
-  rest = asked f.base t tells.rest
+  rest = asked (known_from f.base) t tells.rest
 
   abbrev told_here : IsTold IsMade 0 t f.monitor [] lines.followed.all
   told_here = told_from_first used start taken f k v n lines first base

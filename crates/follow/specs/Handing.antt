@@ -17,7 +17,7 @@ use Rattle.follow.specs.Pieces.{Piece, number_text, text_of, told_in}
 use Rattle.follow.specs.Running as running
 use Rattle.follow.specs.Told.{IsToldFrom}
 use Rattle.follow_laws.specs.Told.{told_between}
-use Rattle.carry_laws.specs.Asked.{asked}
+use Rattle.carry_laws.specs.Asked.{asked, known_from}
 use Rattle.evidence_check.specs.Steps.{StepValue}
 use Rattle.audit.specs.Made.{IsMade}
 use Rattle.monitor.specs.SoFar.{AreAllowedBetween}
@@ -81,7 +81,7 @@ pub record RunEnds (k : KeptValue) (base : ℕ) (a old new : List ℕ) (end : Ru
   pub given : List (Option (List StepValue))
   pub made : AreAllowedBetween IsMade trace (k.lines + 1) (k.lines + line_count a + 1) given
   pub pieces : List Piece
-  pub told : told_in pieces ≡ asked base trace (told_between trace given (k.lines + 1) (k.lines + line_count a + 1))
+  pub told : told_in pieces ≡ asked (known_from base) trace (told_between trace given (k.lines + 1) (k.lines + line_count a + 1))
   pub beats : AreTrue trace pieces []
   pub went : new ≡ old ++ (text_of pieces ++ run_lines end.whole base (length k.log.entries) trace (told_in pieces))
   pub verdict : end.verdict ≡ verdict_of (told_in pieces)

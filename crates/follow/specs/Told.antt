@@ -7,7 +7,7 @@ use Rattle.findings.specs.declared.finding.Finding.{Finding}
 use Rattle.audit.specs.Audit.{Says}
 use Rattle.audit.specs.Made.{IsMade}
 use Rattle.follow_laws.specs.Told.{told_before, told_between}
-use Rattle.carry_laws.specs.Asked.{asked}
+use Rattle.carry_laws.specs.Asked.{asked, known_from}
 use Rattle.monitor.specs.SoFar.{AreAllowedBetween}
 
 -- The lines say a trace, and this is what is told at the first of its lines (`told_before`), by steps that are made
@@ -28,4 +28,4 @@ pub record IsToldFrom (says : Says) (first base : ℕ) (lines : List ℕ) (told 
   pub given : List (Option (List StepValue))
   pub line : ℕ
   pub made : AreAllowedBetween IsMade trace first line given
-  pub is : told ≡ asked base trace (told_between trace given first line)
+  pub is : told ≡ asked (known_from base) trace (told_between trace given first line)

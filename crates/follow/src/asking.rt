@@ -2,7 +2,7 @@
 
 ghost use Rattle.std.specs.Prelude.{◌≡◌, ◌<◌, ◌≤◌, ◌++◌, ℕ, Some, length, slice_get, OnOk};
 ghost use Rattle.trace_lines.specs.Values.{EntryValue};
-ghost use Rattle.carry_laws.specs.Asked.{asked, is_asked};
+ghost use Rattle.carry_laws.specs.Asked.{asked, is_asked, known_from};
 
 use findings::Finding;
 use std::alloc::AllocError;
@@ -32,7 +32,7 @@ fn entries_before(trace: &Trace, line: u64) -> usize
 
 /// Whether the entry on a line, if there is one, asks at the base or above.
 fn is_asked(trace: &Trace, base: u64, line: u64) -> bool
-    ensures { result ≡ is_asked base trace.now line }
+    ensures { result ≡ is_asked (known_from base) trace.now line }
 {
     if base == 0 {
         return true;
@@ -53,7 +53,7 @@ pub(crate) fn push_asked(
     found: &[Finding],
     told: &mut Vec<Finding>,
 ) -> Result<(), AllocError>
-    ensures { OnOk result (told.new.items ≡ told.old.items ++ asked base trace.now found.now) }
+    ensures { OnOk result (told.new.items ≡ told.old.items ++ asked (known_from base) trace.now found.now) }
 {
     // bounded by what was found: each turn looks at one
     for finding in found {

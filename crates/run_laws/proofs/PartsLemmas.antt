@@ -18,7 +18,7 @@ use Rattle.follow_laws.specs.Begun.{Begins}
 use Rattle.follow_laws.specs.Told.{told_between}
 use Rattle.follow_laws.proofs.FirstLemmas.{itself_law}
 use Rattle.follow_laws.proofs.ThroughLemmas.{first_entry}
-use Rattle.carry_laws.specs.Asked.{asked}
+use Rattle.carry_laws.specs.Asked.{Known, asked, known_from}
 use Rattle.carry_laws.specs.Carried.{GoesOnAlike, StandsIn}
 use Rattle.carry_laws.specs.Together.{AreParts, IsPart, Part}
 use Rattle.carry_laws.specs.Together as together
@@ -47,7 +47,7 @@ pub record IsLog (k : KeptValue) : Type 0 where
 pub record IsBegun (k : KeptValue) (r : Ran) : Type 0 where
   pub lines : r.behind.lines ≡ k.lines
   pub log : IsLog r.behind
-  pub known : ((r.base ≡ 0) × (r.behind.log ≡ k.log)) ⊎ ((p : ℕ) × (p ≤ k.lines + 1) × StandsIn r.base p k.log r.behind.log)
+  pub known : ((r.base ≡ 0) × (r.behind.log ≡ k.log)) ⊎ ((p : ℕ) × (p ≤ k.lines + 1) × StandsIn (known_from r.base) p k.log r.behind.log)
 
 abbrev pub AreBegun : KeptValue → List Ran → Type 0
 AreBegun k [] = Unit {0}
@@ -101,9 +101,9 @@ module _ (k : KeptValue) (log : IsLog k) (r : Ran) (begun : IsBegun k r) (u : Tr
       cc
 
   abbrev pub part : Part
-  part = record { to = to; whole = u; base = r.base; log = r.ends.trace; evidence = r.ends.given }
+  part = record { to = to; whole = u; knows = known_from r.base; log = r.ends.trace; evidence = r.ends.given }
 
-  pub is_part : (w : TraceValue) → Begins to u w → IsPart w k.lines k.log part
+  pub is_part : (w : TraceValue) → Begins to u w → IsPart w k.lines k.log 0 part
   is_part w further = record {
     within = omega arith;
     goes = goes;
@@ -114,29 +114,30 @@ module _ (k : KeptValue) (log : IsLog k) (r : Ran) (begun : IsBegun k r) (u : Tr
         let same = begun.lines in omega (arith, low, same);
     alike = alike.1;
     known = elim begun.known [
-      | inl first ↦ inl (first.0, same_end first.1)
+      | inl first ↦ inl (ap known_from first.0, same_end first.1)
       | inr stands ↦ inr stands
     ];
+    steady = λ i e at unset. refl;
   }
 
   pub told_alike : together.told_in k.lines part ≡ told_in r
-  told_alike = sym (r.ends.told ∙ ap (λ (n : ℕ). asked r.base r.ends.trace (told_between r.ends.trace r.ends.given (n + 1)
+  told_alike = sym (r.ends.told ∙ ap (λ (n : ℕ). asked (known_from r.base) r.ends.trace (told_between r.ends.trace r.ends.given (n + 1)
       (n + line_count r.bytes + 1))) begun.lines)
 
   -- ---- what it hands on
 
   -- what stands in for its log, at its base or above, stands in for the whole
-  stands_on : (c q : ℕ) (x : TraceValue) → r.base ≤ c → StandsIn c q r.ends.trace x → q ≤ to + 1
-      → (p : ℕ) × (p ≤ to + 1) × StandsIn c p u x
+  stands_on : (c q : ℕ) (x : TraceValue) → r.base ≤ c → StandsIn (known_from c) q r.ends.trace x → q ≤ to + 1
+      → (p : ℕ) × (p ≤ to + 1) × StandsIn (known_from c) p u x
   stands_on c q x le s low = elim begun.known [
-    | inl first ↦ (q, low, subst (λ (t : TraceValue). StandsIn c q t x) (same_end first.1) s)
+    | inl first ↦ (q, low, subst (λ (t : TraceValue). StandsIn (known_from c) q t x) (same_end first.1) s)
     | inr stands ↦
         let p = stands.0 in
         let within = stands.1 in (
           max p q,
           omega (arith, within, low),
-          handed_on_law r.base p c q u r.ends.trace x (of_bytes u log_now.sound).rising (of_bytes r.ends.trace run_sound).rising
-              (onward r.base p k.log u r.behind.log r.ends.trace goes stands.2 within alike.1) s le,
+          handed_on_law (known_from r.base) (known_from c) p q u r.ends.trace x (of_bytes u log_now.sound).rising (of_bytes r.ends.trace run_sound).rising
+              (onward (known_from r.base) p k.log u r.behind.log r.ends.trace goes stands.2 within alike.1) s le (omega arith),
         )
   ]
 
@@ -158,8 +159,8 @@ module _ (k : KeptValue) (log : IsLog k) (r : Ran) (begun : IsBegun k r) (u : Tr
       record {
         lines = lines;
         log = record { sound = sound.0; fits = omega (arith, fits, same_lines) };
-        known = inr (stands_on s.base h.of.first s.behind.log (subst (λ (c : ℕ). r.base ≤ c) base h.rises) (subst (λ (x : TraceValue). StandsIn s.base h.of.first r.ends.trace x) log
-            (subst (λ (c : ℕ). StandsIn c h.of.first r.ends.trace h.of.log) base h.of.stands)) (omega (arith, behind_to, own)));
+        known = inr (stands_on s.base h.of.first s.behind.log (subst (λ (c : ℕ). r.base ≤ c) base h.rises) (subst (λ (x : TraceValue). StandsIn (known_from s.base) h.of.first r.ends.trace x) log
+            (subst (λ (c : ℕ). StandsIn (known_from c) h.of.first r.ends.trace h.of.log) base h.of.stands)) (omega (arith, behind_to, own)));
       }
 
   pub next_are : (rs : List Ran) → AreBehind (handed r) rs → AreBegun now rs
@@ -259,12 +260,16 @@ begins_all k w (r ∷ rs) log h = by_read (λ now on h. begins_all now w rs on h
 
 pub record AreMade (k w : KeptValue) (rs : List Ran) : Type 0 where
   pub parts : List Part
-  pub are : AreParts w.log k.lines k.log parts
+  pub are : AreParts w.log k.lines k.log 0 parts
   pub told : together.told_in_all k.lines parts ≡ told_by rs
-  pub based : (l : ℕ) → together.base_at parts l ≡ base_at rs l
+  pub based : (l : ℕ) → together.known_at parts l ≡ known_from (base_at rs l)
   pub steps : HaveSteps (IsMadeIn rs) k.lines parts
   pub asks : AllByRecursion (λ (r : Ran). r.end.whole ≡ true) rs → (i : ℕ) (e : EntryValue) → slice_get w.log.entries i ≡ Some e
       → k.lines < e.line → base_at rs e.line ≤ e.snapshot
+
+of_either : (b : Bool) (one other : ℕ) → cond b (known_from one) (known_from other) ≡ known_from (cond b one other)
+of_either true one other = refl
+of_either false one other = refl
 
 pub parts_of : (k w : KeptValue) (rs : List Ran) → IsLog k → AreBegun k rs → log_from k rs ≡ Ok w → AreMade k w rs
 parts_of k w [] log begun h =
@@ -297,8 +302,9 @@ parts_of k w (r ∷ rs) log begun h = by_read (λ next on begun h. parts_of next
           are = (is_part k log r begun.0 u said w.log further, rest.are);
           told = ap (λ (fs : List Finding). fs ++ together.told_in_all next.lines rest.parts) (told_alike k log r begun.0 u said)
               ∙ ap (λ (fs : List Finding). told_in r ++ fs) rest.told;
-          based = λ l. ap (λ (n : ℕ). cond (leb l n) r.base (together.base_at rest.parts l)) (sym to_same)
-              ∙ ap (λ (b : ℕ). cond (leb l (r.behind.lines + line_count r.bytes)) r.base b) (rest.based l);
+          based = λ l. ap (λ (n : ℕ). cond (leb l n) (known_from r.base) (together.known_at rest.parts l)) (sym to_same)
+              ∙ ap (λ (k : Known). cond (leb l (r.behind.lines + line_count r.bytes)) (known_from r.base) k) (rest.based l)
+              ∙ of_either (leb l (r.behind.lines + line_count r.bytes)) r.base (base_at rs l);
           steps = (
             λ j d at l is lt le. inl (d, refl, r.ends.made j d at l is (omega (arith, same, lt)) (omega (arith, same, le))),
             steps_more (IsMadeIn rs) (IsMadeIn (r ∷ rs)) (λ e s had. inr had) next.lines rest.parts rest.steps,

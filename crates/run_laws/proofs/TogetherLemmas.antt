@@ -1,9 +1,8 @@
 -- What all runs of a log tell together.
-use Rattle.std.proofs.Common.{◌≡◌, ℕ, suc, ◌+◌, ◌<◌, ◌≤◌, ◌==◌, ◌&&◌, ◌||◌, ◌⊎◌, not, inl, inr, Bool, true, false, eqb, leb, List, [], ◌∷◌, ◌++◌, Option, Some, Ok, refl, sym, ◌∙◌, ap, subst, arith}
+use Rattle.std.proofs.Common.{◌≡◌, ℕ, ◌+◌, ◌<◌, ◌≤◌, ◌⊎◌, not, inl, inr, Bool, true, List, [], ◌∷◌, ◌++◌, Option, Some, Ok, refl, sym, ◌∙◌, ap, subst, arith}
 use Rattle.std.specs.Prelude.{All, is_none, slice_get, IsPermutation}
-use Rattle.std.specs.List.{AllByRecursion, list_all}
-use Rattle.std.proofs.Math.Bool.{or-true}
-use Rattle.std.proofs.lemmas.Bool.{cases_lt, eqb-true, le-leb}
+use Rattle.std.specs.List.{AllByRecursion}
+use Rattle.std.proofs.lemmas.Bool.{cases_lt, le-leb}
 use Rattle.std.proofs.lemmas.List.Elements.{All-from_recursion}
 use Rattle.std.proofs.lemmas.List.Sorted.{All-permutation}
 use Rattle.std.proofs.lemmas.Option.{get_or_from_slice_get, slice_get_within}
@@ -19,10 +18,10 @@ use Rattle.windows.proofs.GrownLemmas.{behind}
 use Rattle.follow_laws.specs.Begun.{Begins, IsOfBytes}
 use Rattle.follow_laws.specs.Told.{at_moments, left_over, moments}
 use Rattle.follow_laws.proofs.FirstLemmas.{itself_law}
-use Rattle.carry_laws.specs.Asked.{is_asked}
+use Rattle.carry_laws.specs.Asked.{Known, is_asked, is_audited, known_from}
 use Rattle.carry_laws.specs.Carried.{placeless}
 use Rattle.carry_laws.specs.Together as together
-use Rattle.carry_laws.proofs.AskLemmas.{filter_alike, filter_all}
+use Rattle.carry_laws.proofs.AskLemmas.{audited_from, filter_alike, filter_all, pass_where}
 use Rattle.carry_laws.proofs.SilentLemmas.{silent}
 use Rattle.carry_laws.proofs.TogetherLemmas.{each_told, together_law}
 use Rattle.runs.specs.Kept.{KeptValue, nothing_kept}
@@ -54,24 +53,27 @@ module _ (rs : List Ran) (runs : AreRuns rs) (w : KeptValue) (says : whole_log r
   same_audited found = each found
     where
       each : (fs : List Finding) → together.on_audited made.parts w.log fs ≡ on_audited rs w.log fs
-      each fs = filter_alike (λ (f : Finding). is_asked (together.base_at made.parts f.line) w.log f.line)
-          (λ (f : Finding). is_asked (base_at rs f.line) w.log f.line) fs (alike fs)
+      each fs = filter_alike (λ (f : Finding). is_asked (together.known_at made.parts f.line) w.log f.line)
+          (λ (f : Finding). is_asked (known_from (base_at rs f.line)) w.log f.line) fs (alike fs)
         where
-          alike : (fs : List Finding) → AllByRecursion (λ (f : Finding). is_asked (together.base_at made.parts f.line) w.log f.line
-              ≡ is_asked (base_at rs f.line) w.log f.line) fs
+          alike : (fs : List Finding) → AllByRecursion (λ (f : Finding). is_asked (together.known_at made.parts f.line) w.log f.line
+              ≡ is_asked (known_from (base_at rs f.line)) w.log f.line) fs
           alike [] = tt
-          alike (f ∷ fs) = (ap (λ (b : ℕ). is_asked b w.log f.line) (made.based f.line), alike fs)
+          alike (f ∷ fs) = (ap (λ (k : Known). is_asked k w.log f.line) (made.based f.line), alike fs)
 
   pub told_together_law : (evidence : List (Option (List StepValue)))
       × IsPermutation (told_by rs ++ left_over w.log evidence) (on_audited rs w.log (findings_of w.log evidence))
       × ((i : ℕ) (e : EntryValue) → slice_get w.log.entries i ≡ Some e → IsSettled w.log e
       → IsMadeIn rs (placeless e) (steps_of evidence i))
   told_together_law =
-      let all = together_law w.log good made.parts made.are (IsMadeIn rs) made.steps in (
+      let all = together_law w.log good made.parts made.are (IsMadeIn rs) made.steps in
+      let left = all.3 (λ l. ap (λ (k : Known). k.versions) (made.based l)) in (
         all.0,
         subst (λ (fs : List Finding). IsPermutation (told_by rs ++ left_over w.log all.0) fs) (same_audited (findings_of w.log all.0))
-            (subst (λ (fs : List Finding). IsPermutation (fs ++ left_over w.log all.0)
-            (together.on_audited made.parts w.log (findings_of w.log all.0))) made.told all.1),
+            (subst (λ (fs : List Finding). IsPermutation (told_by rs ++ fs)
+            (together.on_audited made.parts w.log (findings_of w.log all.0))) left
+            (subst (λ (fs : List Finding). IsPermutation (fs ++ together.on_audited made.parts w.log (left_over w.log all.0))
+            (together.on_audited made.parts w.log (findings_of w.log all.0))) made.told all.1)),
         all.2,
       )
 
@@ -106,27 +108,10 @@ module _ (rs : List Ran) (runs : AreRuns rs) (w : KeptValue) (says : whole_log r
         (omega arith) (sym (ap (λ (es : List EntryValue). slice_get es i) goes.recorded) ∙ at))
 
     -- no line is one of an entry that was not audited
-    all_asked : (line : ℕ) → is_asked (base_at rs line) w.log line ≡ true
-    all_asked line = each w.log.entries asks
-      where
-        each : (es : List EntryValue) → ((i : ℕ) (e : EntryValue) → slice_get es i ≡ Some e → base_at rs e.line ≤ e.snapshot)
-            → list_all (λ (e : EntryValue). not (e.line == line) || leb (base_at rs line) e.snapshot) es ≡ true
-        each [] h = refl
-        each (e ∷ es) h = by_line (each es (λ i x at. h (suc i) x at)) (eqb e.line line) refl
-          where
-            by_line : list_all (λ (x : EntryValue). not (x.line == line) || leb (base_at rs line) x.snapshot) es ≡ true
-                → (b : Bool) → eqb e.line line ≡ b
-                → ((not (eqb e.line line) || leb (base_at rs line) e.snapshot)
-                && list_all (λ (x : EntryValue). not (x.line == line) || leb (base_at rs line) x.snapshot) es) ≡ true
-            by_line rest false is = ap (λ (b : Bool). (not b || leb (base_at rs line) e.snapshot) && list_all (λ (x : EntryValue).
-                not (x.line == line) || leb (base_at rs line) x.snapshot) es) is ∙ rest
-            by_line rest true is =
-                let low : base_at rs line ≤ e.snapshot = subst (λ (l : ℕ). base_at rs l ≤ e.snapshot) (eqb-true e.line line is) (h 0 e refl) in
-                ap (λ (b : Bool). (not (eqb e.line line) || b) && list_all (λ (x : EntryValue).
-                not (x.line == line) || leb (base_at rs line) x.snapshot) es) (le-leb (base_at rs line) e.snapshot low)
-                ∙ ap (λ (b : Bool). b && list_all (λ (x : EntryValue). not (x.line == line) || leb (base_at rs line) x.snapshot) es)
-                (or-true (not (eqb e.line line)))
-                ∙ rest
+    all_asked : (line : ℕ) → is_asked (known_from (base_at rs line)) w.log line ≡ true
+    all_asked line = pass_where (is_audited (known_from (base_at rs line)) w.log.entries) line w.log.entries (λ i e at on.
+        audited_from (base_at rs line) w.log.entries e
+        ∙ le-leb (base_at rs line) e.snapshot (subst (λ (l : ℕ). base_at rs l ≤ e.snapshot) on (asks i e at)))
 
     module _ (n : ℕ) (settled : All (λ e. e.line ≤ n → IsSettled w.log e) w.log.entries) where
       abbrev evidence : List (Option (List StepValue))
@@ -157,7 +142,7 @@ module _ (rs : List Ran) (runs : AreRuns rs) (w : KeptValue) (says : whole_log r
           let all = told_together_law.1 in
           let found = findings_of w.log evidence in
           let whole : on_audited rs w.log found ≡ found =
-          filter_all (λ (f : Finding). is_asked (base_at rs f.line) w.log f.line) (λ f. all_asked f.line) found in
+          filter_all (λ (f : Finding). is_asked (known_from (base_at rs f.line)) w.log f.line) (λ f. all_asked f.line) found in
           let same : IsPermutation (left_over w.log evidence) found =
           subst (λ (fs : List Finding). IsPermutation (left_over w.log evidence) fs) whole
           (subst (λ (fs : List Finding). IsPermutation (fs ++ left_over w.log evidence) (on_audited rs w.log found)) none_told all) in

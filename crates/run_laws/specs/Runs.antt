@@ -6,7 +6,7 @@ use Rattle.trace_lines.specs.Values.{EntryValue, TraceValue}
 use Rattle.trace_lines.specs.declared.cause.TraceFault.{TraceFault}
 use Rattle.evidence_check.specs.Steps.{StepValue}
 use Rattle.findings.specs.declared.finding.Finding.{Finding}
-use Rattle.carry_laws.specs.Asked.{is_asked}
+use Rattle.carry_laws.specs.Asked.{is_asked, known_from}
 use Rattle.carry_laws.specs.Carried.{placeless}
 use Rattle.runs.specs.Kept.{KeptValue, log_behind, nothing_kept}
 use Rattle.audit.specs.Made.{IsMade}
@@ -74,7 +74,7 @@ base_at (r ∷ rs) line = if nat_le line (r.behind.lines + line_count r.bytes) t
 
 -- the findings on entries that were audited: those that ask at or above the base of the run that took them
 abbrev pub on_audited : List Ran → TraceValue → List Finding → List Finding
-on_audited rs u found = filter (λ f. is_asked (base_at rs f.line) u f.line) found
+on_audited rs u found = filter (λ f. is_asked (known_from (base_at rs f.line)) u f.line) found
 
 -- the steps are made for the entry in the log of one of these runs
 abbrev pub IsMadeInRun : Ran → EntryValue → Option (List StepValue) → Type 0

@@ -25,6 +25,7 @@ use Rattle.windows.proofs.CompactionLemmas.{AreOrdered, IsAbove, IsUpTo, all_abo
 use Rattle.windows.proofs.CutLemmas.{lines_of}
 use Rattle.windows.proofs.GrownLemmas.{same_store}
 use Rattle.windows.proofs.NearestLemmas.{AreInTime, lines_in_time}
+use Rattle.carry_laws.specs.Asked.{known_from}
 use Rattle.carry_laws.specs.Carried.{Keeps, StandsIn, has_commit_at, placeless}
 use Rattle.carry_laws.proofs.OnwardLemmas.{all_lines}
 use Rattle.carry_laws.proofs.StandInLemmas.{weaker}
@@ -304,18 +305,18 @@ module _ (b line : ℕ) (t x : TraceValue) (tp : HasPlacedCommits t) (xp : HasPl
       lines_up_to (commit_lines_of x) (rising_lines x xp) (rising_times x xp) h.front_at_base.0
       (record { line = h.front; at = b }) h.front_at_base.1
 
-  keeps : Keeps (line + 1) t (goes_on t)
+  keeps : Keeps 0 (line + 1) t (goes_on t)
   keeps = record {
     unsettled = λ i e at unset.
         let open_there = open_unsettled t e unset in (
           ap (λ (z : Bool). z || issues_some e.kind e.version) open_there,
           h.open_behind i e at open_there,
         );
-    issuers = issuer_goes_on t;
+    issuers = λ v e is from. issuer_goes_on t v e is;
     by_face = λ e. refl;
   }
 
-  pub stands_in_there : x.declarations ≡ t.declarations → StandsIn b (line + 1) t x
+  pub stands_in_there : x.declarations ≡ t.declarations → StandsIn (known_from b) (line + 1) t x
   stands_in_there declared = record {
     front = front_commits;
     front_lines = lines_of (front_of b (commit_lines_of x));

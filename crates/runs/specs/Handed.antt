@@ -2,6 +2,7 @@
 use Rattle.std.specs.Prelude.{◌≡◌, ℕ, ◌+◌, ◌≤◌, List, [], Some, Ok}
 use Rattle.trace_lines.specs.Values.{TraceValue}
 use Rattle.carry.specs.Values.{CarryValue}
+use Rattle.carry_laws.specs.Asked.{known_from}
 use Rattle.carry_laws.specs.Carried.{StandsIn}
 use Rattle.runs.specs.Begins.{log_of}
 use Rattle.runs.specs.DeclaredTexts.{declared_by}
@@ -11,7 +12,7 @@ pub record IsCarryOf (t : TraceValue) (c : CarryValue) : Type 0 where
   pub log : TraceValue
   pub begun : log_of c ≡ Ok log
   pub first : ℕ
-  pub stands : StandsIn c.base first t log
+  pub stands : StandsIn (known_from c.base) first t log
   pub behind : first ≤ c.lines + 1
 
 -- these texts of lines make the declarations of a log

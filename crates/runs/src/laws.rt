@@ -5,6 +5,7 @@ ghost use Rattle.trace_lines.specs.Values.{TraceValue, next_line};
 ghost use Rattle.evidence_check.specs.Steps.{StepValue};
 ghost use Rattle.windows.specs.Growth.{GoesOn};
 ghost use Rattle.follow_laws.specs.Begun.{IsOfBytes};
+ghost use Rattle.carry_laws.specs.Asked.{known_from};
 ghost use Rattle.carry_laws.specs.Carried.{GoesOnAlike, HaveSameSteps, asked_left, asked_on};
 ghost use Rattle.carry.specs.Values.{CarryValue};
 ghost use Rattle.runs.specs.Handed.{IsCarryOf};
@@ -29,8 +30,8 @@ pub fn told_by_run()
         → log_behind (record { lines = c.lines; log = is.log }) true a ≡ Ok y → IsOfBytes t → IsOfBytes u
         → IsOfBytes is.log → IsOfBytes y → (evidence own : List (Option (List StepValue)))
         → HaveSameSteps u evidence y own
-        → ((k : ℕ) → c.lines < k → asked_on c.base u evidence k ≡ asked_on c.base y own k)
-        × (asked_left c.base u evidence ≡ asked_left c.base y own) }
+        → ((k : ℕ) → c.lines < k → asked_on (known_from c.base) u evidence k ≡ asked_on (known_from c.base) y own k)
+        × (asked_left (known_from c.base) u evidence ≡ asked_left (known_from c.base) y own) }
 {
     told_alike();
 }

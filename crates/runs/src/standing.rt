@@ -1,6 +1,7 @@
 //! Whether a shorter log stands in for another one.
 
 ghost use Rattle.std.specs.Prelude.{◌≡◌, IfSome};
+ghost use Rattle.carry_laws.specs.Asked.{known_from};
 ghost use Rattle.carry_laws.specs.Carried.{StandsIn};
 ghost use Rattle.runs.specs.Alike.{IsCommitLine};
 
@@ -29,7 +30,7 @@ fn line_at(log: &Trace, at: u64) -> Option<u64>
 /// timestamp. `None` where it does not.
 pub(crate) fn stands_in_from(log: &Trace, other: &Trace, base: u64) -> Option<u64>
     requires { other.now.declarations ≡ log.now.declarations }
-    ensures { IfSome result (λ p. StandsIn base p log.now other.now) }
+    ensures { IfSome result (λ p. StandsIn (known_from base) p log.now other.now) }
 {
     stand_in_order(log);
     stand_in_order(other);

@@ -2,4 +2,4 @@ use Rattle.carry_laws.proofs.OnwardLemmas.{onward}
 use Rattle.carry_laws.proofs.laws.stands_on.Goals as goal
 
 pub returns : goal.returns
-returns c = λ n b p t u x y goes s within a. onward b p t u x y goes s within a
+returns c = λ known n p t u x y goes s within a. onward known p t u x y goes s within a

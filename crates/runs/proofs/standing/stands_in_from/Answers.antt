@@ -1,6 +1,7 @@
 use Rattle.std.proofs.Common.{◌≡◌, ◌+◌, ◌≤◌, ℕ, List, true, ◌∙◌, sym, ap, subst}
 use Rattle.tuple_text.specs.Tuples.{TupleValue}
 use Rattle.version_chains.specs.Commits.{Commit, changelog, is_stored}
+use Rattle.carry_laws.specs.Asked.{known_from}
 use Rattle.carry_laws.specs.Carried.{StandsIn}
 use Rattle.runs.specs.Alike.{touches_above}
 use Rattle.runs.proofs.StandingLemmas.{AreAlikeFrom, stands_in_there}
@@ -41,5 +42,5 @@ returns c =
       open_behind = λ i e at opens.
           subst (λ (n : ℕ). n ≤ e.line) next (c.are_open_from.ensures c.if-not-are_open_from.false i e at opens);
     } in
-    subst (λ (n : ℕ). StandsIn base n log other) (sym next)
+    subst (λ (n : ℕ). StandsIn (known_from base) n log other) (sym next)
     (stands_in_there base line log other c.stand_in_order.ensures.commits c.stand_in_order-2.ensures.commits alike c.requires)
