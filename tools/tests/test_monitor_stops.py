@@ -1,6 +1,7 @@
 """`ne monitor` that is told to stop at odd moments: it ends, within seconds, and the next one goes on."""
 import os
 import signal
+import time
 
 from new_enemy_tools.monitoring.stopping import BROKEN_OFF, BROKEN_OFF_STATUS
 from tests.support import TOOLS
@@ -106,12 +107,12 @@ class Stops(Monitoring):
         self.assertEqual([row["kind"] for row in self.told()], ["stopped"] * 3 + ["finding"])
 
     def test_a_program_that_is_told_to_stop_too(self):
-        """As systemd tells all processes of a unit."""
+        """As systemd tells all processes of a unit, and a terminal those before it: its monitor alone ends it."""
         one, program = self.begun(LATE)
-        one.send_signal(signal.SIGSTOP)
-        os.kill(program, signal.SIGTERM)
-        self.wait_for(lambda: not children_of(one.pid))
+        for number in (signal.SIGTERM, signal.SIGINT, signal.SIGHUP):
+            os.kill(program, number)
+        time.sleep(0.2)
+        self.assertEqual(children_of(one.pid), [program])
         one.send_signal(signal.SIGTERM)
-        one.send_signal(signal.SIGCONT)
         self.ends(one)
         self.assert_goes_on()
