@@ -10,7 +10,7 @@ from collections import Counter
 from new_enemy_tools.importing.times import nanoseconds
 from new_enemy_tools.recording.keeper import BESIDE
 from new_enemy_tools.recording.openfga import OTHER_STORE
-from tests.recorded import READY, Client, Recorded
+from tests.recorded import READY, Client, Recorded, is_alive
 from tests.stand_in_openfga import OTHER, STORE
 from tests.support import TOOLS
 from tests.test_recording_gaps import Failing, keeper_of
@@ -22,15 +22,6 @@ DID_NOT_RUN, KILLED = "the recorder did not run", "the recorder was killed"
 
 
 RECORD = os.path.join(TOOLS, "record")
-
-
-def is_alive(number):
-    """Whether a process runs; one that is dead may have nobody who waits for it."""
-    try:
-        with open("/proc/%d/stat" % number, encoding="utf-8") as file:
-            return file.read().rpartition(")")[2].split()[0] != "Z"
-    except OSError:
-        return False
 
 
 class Ending(Failing):
@@ -226,7 +217,7 @@ class Killed(Ending):
         for one in (self.recorder.pid, keeper):
             os.kill(one, signal.SIGKILL)
         self.recorder.wait()
-        self.wait_for(lambda: not os.path.exists("/proc/%d" % keeper))
+        self.wait_for(lambda: not is_alive(keeper))
 
     def test_an_open_end_is_a_gap(self):
         self.begin(is_last=True)
