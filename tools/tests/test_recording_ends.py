@@ -258,7 +258,7 @@ class Killed(Ending):
         self.end(waiting, 5)
         self.client = first
         self.wait_for(lambda: self.lost()[BESIDE])
-        self.ask("last")
+        self.record("last")
         self.end(self.recorder)
         self.assertEqual((self.users(), self.lost()), ({"first", "last"}, Counter({BESIDE: 2})))
         self.import_log()
