@@ -1,5 +1,5 @@
-"""Signals that reach all processes of a unit of systemd or of a terminal: who starts a process that it ends itself holds
-them back from that process."""
+"""Signals that reach all processes of a unit of systemd, or of a terminal: who starts a process that it ends itself
+holds them back from that one."""
 import signal
 from contextlib import contextmanager
 from typing import Iterator

@@ -179,8 +179,8 @@ class Proxy:
         word = ["--openfga" if self.settings.service == "openfga" else "--spicedb", self.settings.url]
         with held_back():
             self.keeper = subprocess.Popen([sys.executable, ENTRY, *word, "--listen", ":0", "--out", self.settings.folder,
-                                            "--keep", str(its.fileno())], pass_fds=(its.fileno(),), stdin=subprocess.PIPE,
-                                           start_new_session=True)
+                                            "--keep", str(its.fileno())],
+                                           pass_fds=(its.fileno(),), stdin=subprocess.PIPE, start_new_session=True)
         its.close()
         assert self.keeper.stdin is not None
         # What the keeper needs to know, with the key, stands on no command line.
