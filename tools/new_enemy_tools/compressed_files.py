@@ -4,6 +4,7 @@ import os
 import shutil
 import subprocess
 import zlib
+from contextlib import suppress
 from typing import BinaryIO, Iterable
 
 from new_enemy_tools.faults import DeviceFault, ToolFault
@@ -40,7 +41,9 @@ def _by_zstd(program: str, file: BinaryIO, pieces: Iterable[bytes]) -> None:
                 running.stdin.write(piece)
             running.stdin.close()
         except BrokenPipeError:
-            pass
+            # Else what was not written would be tried again.
+            with suppress(BrokenPipeError):
+                running.stdin.close()
         said = running.stderr.read()
     if running.returncode:
         raise DeviceFault("zstd cannot write %s: %s" % (file.name, said.decode("utf-8", "replace").strip()[:200]))

@@ -24,13 +24,22 @@ def keeper_of(recorder):
     """The process of the keeper that a recorder started."""
     for path in glob.glob("/proc/[0-9]*/stat"):
         try:
-            with open(path, encoding="utf-8") as file:
+            with open(path, encoding="utf-8", errors="replace") as file:
                 words = file.read().rpartition(")")[2].split()
         except OSError:
             continue
         if int(words[1]) == recorder.pid and words[0] != "Z":
             return int(path.split("/")[2])
     return None
+
+
+def is_alive(number):
+    """Whether a process runs; one that is dead may have nobody who waits for it."""
+    try:
+        with open("/proc/%d/stat" % number, encoding="utf-8", errors="replace") as file:
+            return file.read().rpartition(")")[2].split()[0] != "Z"
+    except OSError:
+        return False
 
 
 class Client:

@@ -8,6 +8,7 @@ from unittest import mock
 
 from new_enemy_tools import limits
 from new_enemy_tools.parting.blocks import Blocks
+from new_enemy_tools.parting.part_runs import audit
 from new_enemy_tools.parting.placing import line_of, object_of, part_of
 from new_enemy_tools.trace_lines import OBJECTS as ENTRIES, RECORDS
 from tests.random_traces import RandomInput
@@ -184,6 +185,14 @@ class Refusals(PartsCase):
         self.assertEqual(run, (2, "", "parts: part 2 was killed by signal %d\n" % signal.SIGKILL))
         self.refused("part 2 of 3 was killed by signal 9", *self.reports)
         self.assertEqual(parts("run", program, self.folder).stderr, "parts: part 1 of 3 was killed by signal 9\n")
+
+    def test_a_program_that_ends_before_it_has_read_all(self):
+        """Its status counts, and not what it was not given."""
+        program = self.put("program", "#!/bin/sh\nexit 2\n")
+        os.chmod(program, 0o755)
+        trace, evidence = self.put("short", "line\n"), self.put("long", "line\n" * 1_000_000)
+        with open(os.devnull, "wb") as out:
+            self.assertEqual(audit(program, trace, evidence, out, out), 2)
 
     def test_files_that_are_not_whole(self):
         path = os.path.join(self.folder, "part2.trace")

@@ -216,7 +216,7 @@ class Edits(Case):
         os.symlink(os.path.join(os.path.dirname(DEV), "new_enemy_tools"), self.path("tools/new_enemy_tools"))
         path = os.pathsep.join([self.path("bin"), os.environ["PATH"]])
         names = {"PATH": path, "ASIS": self.path("as-is"), "ASKED": self.path("asked"), "XDG_CACHE_HOME": self.path("cache"), **more}
-        return {"env": {**os.environ, **names}, "capture_output": True, "text": True, "timeout": 60}
+        return {"env": {**os.environ, **names}, "capture_output": True, "text": True, "timeout": 300}
 
     def more_edits(self, how, *words):
         run = subprocess.run([sys.executable, self.path("tools/dev/more_edits"), *words], **how)

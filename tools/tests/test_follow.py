@@ -23,7 +23,7 @@ from tests.support import Case
 from tests.test_effects import ChangingInput
 
 RANDOM_TRACES = int(os.environ.get("RANDOM_FOLLOWED", "40"))
-SECONDS = 30
+SECONDS = 300
 MOST, SHORT = 2_000_000, 10_000
 AT_ONCE = ("F1", "F2", "F3", "F5", "F6")
 BLANK = b" \t\r"

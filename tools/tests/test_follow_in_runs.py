@@ -19,7 +19,7 @@ from tests.support import Case
 
 PROGRAM = os.environ["NEW_ENEMY"]
 HISTORIES = int(os.environ.get("RANDOM_RUNS", "40"))
-SECONDS = 60
+SECONDS = 300
 SHORT = 10_000
 NUMBER = re.compile(rb'"(?:at|snapshot)" *: *([0-9]+)')
 UNAUDITED = re.compile(r"line ([0-9]+): not audited, below ([0-9]+)")

@@ -27,7 +27,7 @@ from new_enemy_tools.monitoring.receivers import Syslog
 from tests import test_joining
 from tests.ports import free_port
 from tests.recorded import READY, Client, Recorded
-from tests.support import EXAMPLES, NE, TOP
+from tests.support import EXAMPLES, TOOLS, TOP
 from tests.test_going_on import RULES, events_of
 from tests.test_recording_openfga import MODEL
 from tests.test_recording_openfga import Loaded as OpenFgaLoaded
@@ -35,6 +35,7 @@ from tests.test_recording_spicedb import Loaded as SpiceDbLoaded
 from tests.test_trace_maker import check, content, rel, write
 
 PROGRAM = os.path.abspath(os.environ["NEW_ENEMY"])
+PATIENT = os.path.join(TOOLS, "tests", "patient_monitor.py")
 KILLS = int(os.environ.get("KILLS", "20"))
 UNIT = "new-enemy-monitor@.service"
 SECRET = "0123456789abcdef"
@@ -71,8 +72,8 @@ class Monitoring(Recorded):
         """A monitor as a process; what it tells goes behind what earlier ones told. The replies of these logs are days old, so on a machine with
         much other work there would be an alert of their lag, unless a test asks for it."""
         files = [open(self.path(name), "a", encoding="utf-8") for name in (told, said)]
-        one = self.start(NE, "monitor", "--program", PROGRAM, "--hold", "0", "--most-lag", "1e9", *words, log, out, stdout=files[0],
-                         stderr=files[1])
+        one = self.start(PATIENT, "monitor", "--program", PROGRAM, "--hold", "0", "--most-lag", "1e9", *words, log, out,
+                         stdout=files[0], stderr=files[1])
         for file in files:
             file.close()
         return one
@@ -469,10 +470,11 @@ class Hook(BaseHTTPRequestHandler):
         self.server.asked += 1
         is_down = self.server.asked <= self.server.down
         if not is_down:
-            self.server.got.append((json.loads(body), time.time()))
             sent = self.headers["X-New-Enemy-Time"]
             wanted = hmac.new(SECRET.encode(), sent.encode() + b"." + body, hashlib.sha256).hexdigest()
             self.server.are_signed.append(self.headers["X-New-Enemy-Signature"] == "sha256=" + wanted)
+            # Last, since tests wait for it.
+            self.server.got.append((json.loads(body), time.time()))
         self.send_response(503 if is_down else 204)
         self.send_header("Content-Length", "0")
         self.end_headers()
@@ -690,6 +692,7 @@ class Metrics(Hooked):
         # The day of the check is over.
         self.wait_for(lambda: self.numbers(port).get("run") == 2, lambda: self.get("monitor.err"))
         self.assertEqual(self.numbers(port)['bound_passed{bound="loss"}'], 1)
+        self.wait_for(self.told)
         self.stop(one)
         self.assertEqual([(row["kind"], row["state"]) for row in self.told()], [("loss", "passed")])
 

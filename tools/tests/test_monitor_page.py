@@ -61,7 +61,9 @@ class Shown(Hooked):
         self.put_log(files_of(timed(events), []))
         address = "127.0.0.1:%d" % free_port()
         self.one = self.monitor("--metrics", address, "--page")
-        self.wait_for(lambda: "F10" in self.asked(address) and "The last" not in self.asked(address), lambda: self.get("monitor.err"))
+        # The program tells its findings one by one, and each may be looked at alone.
+        self.wait_for(lambda: "3</strong> F10 wrong" in self.asked(address) and "The last" not in self.asked(address),
+                      lambda: self.get("monitor.err"))
         return address
 
     def asked(self, address, path="/"):

@@ -4,6 +4,7 @@ import signal
 import time
 
 from new_enemy_tools.monitoring.stopping import BROKEN_OFF, BROKEN_OFF_STATUS
+from tests.recorded import is_alive
 from tests.support import TOOLS
 from tests.test_going_on import RULES
 from tests.test_monitor import BASE, PLACE, PROGRAM, Monitoring, compact, files_of, timed
@@ -88,7 +89,7 @@ class Stops(Monitoring):
         one.send_signal(signal.SIGTERM)
         self.ends(one, BROKEN_OFF_STATUS)
         self.assertIn(BROKEN_OFF.decode(), self.get("monitor.err"))
-        self.wait_for(lambda: not os.path.exists("/proc/%d" % program))
+        self.wait_for(lambda: not is_alive(program))
         self.assert_goes_on()
 
     def test_a_program_that_fails_by_itself(self):

@@ -10,7 +10,7 @@ from collections import Counter
 from new_enemy_tools.importing.times import nanoseconds
 from new_enemy_tools.recording.keeper import BESIDE
 from new_enemy_tools.recording.openfga import OTHER_STORE
-from tests.recorded import READY, Client, Recorded
+from tests.recorded import READY, Client, Recorded, is_alive
 from tests.stand_in_openfga import OTHER, STORE
 from tests.support import TOOLS
 from tests.test_recording_gaps import Failing, keeper_of
@@ -22,15 +22,6 @@ DID_NOT_RUN, KILLED = "the recorder did not run", "the recorder was killed"
 
 
 RECORD = os.path.join(TOOLS, "record")
-
-
-def is_alive(number):
-    """Whether a process runs; one that is dead may have nobody who waits for it."""
-    try:
-        with open("/proc/%d/stat" % number, encoding="utf-8") as file:
-            return file.read().rpartition(")")[2].split()[0] != "Z"
-    except OSError:
-        return False
 
 
 class Ending(Failing):
@@ -53,10 +44,26 @@ class Ending(Failing):
         self.recorder = self.start_recorder(*words)
         self.client = Client(self.port)
         self.addCleanup(self.client.close)
-        self.ask("first")
-        self.wait_for(lambda: "first" in self.users())
+        self.record("first")
         if is_last:
             self.control("pause")
+
+    def record(self, user):
+        """A check that stands in the log. A recorder that gets no time for as long as it may hold one loses one that
+        it could have."""
+        before, asked = self.late(), 0
+
+        def is_recorded():
+            nonlocal asked
+            if self.late() == before + asked:
+                self.ask(user)
+                asked += 1
+            return user in self.users()
+        self.wait_for(is_recorded, lambda: str(self.lost()))
+
+    def late(self):
+        """How many checks were lost since the changes came too late."""
+        return sum(count for reason, count in self.lost().items() if reason.startswith("the changes were more than"))
 
     def control(self, what):
         """The changes of the service can't be read any more, or can be again."""
@@ -210,7 +217,7 @@ class Killed(Ending):
         for one in (self.recorder.pid, keeper):
             os.kill(one, signal.SIGKILL)
         self.recorder.wait()
-        self.wait_for(lambda: not os.path.exists("/proc/%d" % keeper))
+        self.wait_for(lambda: not is_alive(keeper))
 
     def test_an_open_end_is_a_gap(self):
         self.begin(is_last=True)
@@ -225,7 +232,7 @@ class Killed(Ending):
                       self.run_tool("report", "--form", "text", "trace.jsonl", "report.txt").stdout)
 
     def test_the_next_recorder_says_it(self):
-        self.begin("--hold", "7", is_last=True)
+        self.begin("--hold", "60", is_last=True)
         self.ask("last")
         last = max(row["time"] for row in self.events() if "time" in row)
         self.kill_all()
@@ -251,7 +258,7 @@ class Killed(Ending):
         self.end(waiting, 5)
         self.client = first
         self.wait_for(lambda: self.lost()[BESIDE])
-        self.ask("last")
+        self.record("last")
         self.end(self.recorder)
         self.assertEqual((self.users(), self.lost()), ({"first", "last"}, Counter({BESIDE: 2})))
         self.import_log()
@@ -408,9 +415,8 @@ class Untold(Ending):
         time.sleep(1)
         self.kill(waiting.pid, keeper_of(waiting))
         self.client = first
-        self.ask("last")
+        self.record("last")
         self.end(self.recorder)
-        self.assertIn("last", self.users())
         self.assert_told()
         self.assertEqual([name for name in os.listdir(self.path("log")) if name.startswith("beside")], [])
         self.import_log()
@@ -423,6 +429,8 @@ class Untold(Ending):
         self.client = Client(self.port)
         self.addCleanup(self.client.close)
         self.ask("passes")
+        # It would take the folder where it got some time between the end of the others and its own.
+        os.kill(keeper_of(waiting), signal.SIGSTOP)
         self.kill(self.recorder.pid, keeper_of(self.recorder), waiting.pid, keeper_of(waiting))
         self.client = first
         self.assertIn("gap beside the log: log/beside-", self.import_log())

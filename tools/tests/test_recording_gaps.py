@@ -11,7 +11,8 @@ from random import Random
 
 from new_enemy_tools.importing import causes
 from new_enemy_tools.recording.openfga import UNORDERED
-from tests.recorded import Client, Recorded, keeper_of
+from tests.ports import free_port
+from tests.recorded import Client, Recorded, is_alive, keeper_of
 from tests.stand_in_openfga import STORE
 from tests.test_recording_openfga import MODEL, OpenFga, key
 from tests.test_recording_spicedb import SpiceDb
@@ -97,7 +98,7 @@ class Killed(Failing):
             else:
                 recorder.wait()
                 # The keeper ends by itself, as the proxy is gone.
-                self.wait_for(lambda keeper=keeper: not os.path.exists("/proc/%d" % keeper))
+                self.wait_for(lambda keeper=keeper: not is_alive(keeper))
         self.end(self.start_recorder())
         gaps = self.of_kind("gap")
         # Of the checks that passed, and those are most, each is in the log or counted, but for those of the keeper that was killed.
@@ -121,6 +122,22 @@ class Killed(Failing):
         self.end(recorder)
         self.assertEqual([row["reason"] for row in self.of_kind("gap")][:3],
                          ["the log begins", "the recorder was killed", "the recorder did not run"])
+
+
+class Told(Failing):
+    def test_a_keeper_that_is_told_to_stop_too(self):
+        """As all processes of a unit may be, also when it begins: its proxy alone ends it."""
+        self.start_service()
+        self.port = free_port()
+        recorder = self.started("log", "--listen", "127.0.0.1:%d" % self.port)
+        self.wait_for(lambda: keeper_of(recorder) is not None)
+        keeper = keeper_of(recorder)
+        for number in (signal.SIGTERM, signal.SIGINT, signal.SIGHUP):
+            os.kill(keeper, number)
+        self.wait_for(lambda: "recording " in self.get("said"), lambda: self.get("said"))
+        self.assertEqual(keeper_of(recorder), keeper)
+        self.end(recorder)
+        self.assertEqual(len(self.of_kind("closed")), 1)
 
 
 class KilledSpiceDb(SpiceDb):
@@ -194,6 +211,9 @@ class Full(Failing):
         self.wait_for(lambda: "cannot write the log: File too large" in self.get("said"))
         resource.prlimit(keeper, resource.RLIMIT_FSIZE, (resource.RLIM_INFINITY, resource.RLIM_INFINITY))
         self.wait_for(lambda: "the log goes on" in self.get("said"))
+        # A recorder that is ended waits for the changes alone that checks need.
+        last = self.feed()[-1]["user"].split(":")[1]
+        self.wait_for(lambda: any(last in self.get(name).split('"') for name in self.files()))
         self.end(recorder)
         self.assert_once()
         self.import_log()

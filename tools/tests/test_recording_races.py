@@ -80,6 +80,10 @@ class Raced(OpenFga):
         self.import_log()
         self.assertEqual((self.found(), len(self.of_kind("check"))), ({}, 1), self.said_of_audit)
 
+    def unshown(self):
+        """The tuples of the writes that the log was told of before they were shown."""
+        return [one for row in self.of_kind("place") for write in row.get("unshown", ()) for one in write["add"]]
+
     def test_a_write_that_is_not_shown_when_the_keeper_is_killed(self):
         """The next keeper knows of it, and waits until it is shown: a check that sees it is no wrong reply. So it is where the proxy is killed too."""
         recorder = self.begin(0, 3)
@@ -87,7 +91,8 @@ class Raced(OpenFga):
             self.write(self.client, key("user:%d" % turn, "viewer", "document:1"))
             keeper = keeper_of(recorder)
             if turn:
-                self.wait_for(lambda: any("unshown" in row for row in self.of_kind("place")))
+                # The log has had those of the turn before.
+                self.wait_for(lambda: ["document", "1", "viewer", "user", "1"] in self.unshown())
                 recorder.kill()
             os.kill(keeper, signal.SIGKILL)
             if turn:

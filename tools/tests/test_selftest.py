@@ -9,8 +9,9 @@ import urllib.request
 from collections import Counter
 from json import loads
 from typing import Any
+from unittest import mock
 
-from new_enemy_tools.fitting.comparing import Log, of_log
+from new_enemy_tools.fitting.comparing import SHOWN, Log, of_log, wait_for_changes
 from new_enemy_tools.fitting.load import Load
 from new_enemy_tools.fitting.services import OpenFga as Scratch
 
@@ -40,7 +41,8 @@ class Tried(Recorded):
     def told(self, lie: str, status: int, *more: str) -> str:
         """What a self-test says in front of a service, which leaves nothing behind."""
         self.start_service(lie)
-        run = subprocess.run(self.words(*more), env=self.environment(), capture_output=True, text=True, timeout=READY)
+        run = subprocess.run(self.words(*more), env=self.environment(), capture_output=True, text=True,
+                             timeout=5 * READY)
         self.assertEqual(run.returncode, status, (run.stdout, run.stderr))
         self.assertEqual(os.listdir(self.path("temporary")), [])
         return run.stdout + run.stderr
@@ -101,7 +103,7 @@ class OpenFga(Tried):
 
     def test_a_service_that_cannot_be_asked(self) -> None:
         self.service_port = free_port()
-        run = subprocess.run(self.words(), env=self.environment(), capture_output=True, text=True, timeout=READY)
+        run = subprocess.run(self.words(), env=self.environment(), capture_output=True, text=True, timeout=5 * READY)
         self.assertEqual((run.returncode, run.stdout), (5, ""), run.stderr)
         self.assertIn("can't be asked", run.stderr)
 
@@ -151,7 +153,7 @@ class SpiceDb(OpenFga):
 
     def test_one_that_has_a_schema_is_refused_and_stays_as_it_is(self) -> None:
         self.start_service("none", "taken")
-        run = subprocess.run(self.words(), env=self.environment(), capture_output=True, text=True, timeout=READY)
+        run = subprocess.run(self.words(), env=self.environment(), capture_output=True, text=True, timeout=5 * READY)
         self.assertEqual((run.returncode, run.stdout), (2, ""))
         self.assertIn("has a schema", run.stderr)
         self.assertEqual(self.there(), ["shop"])
@@ -167,6 +169,25 @@ class OfALog(Case):
         stored = [["document", "d1", "viewer", "group", "g", "member"]]
         rows = [{"event": "write", "add": stored, **more}, *({"event": "check", "goal": ["document", "d1", "can_view", "user", "u1"], "reply": one} for one in replies)]
         return list(of_log(load, Log([self.put("log", rows)], "a prefix"), False))
+
+    def test_what_was_written_last_is_waited_for(self) -> None:
+        """Line by line, of which the last may be there by half; and not for ever."""
+        load = Load(Scratch(), "http://127.0.0.1", None, 0)
+        load.stored = {("document:d1", "viewer", "user:u1")}
+        os.makedirs(self.path("log"))
+        pieces = ["", '{"event":"check","goal":["document","d1","viewer","user","u1"],',
+                  '"reply":true}\n{"event":"write",', '"add":[["document","d1","viewer","user","u1"]]}\n', "no line"]
+
+        def go_on(_: float) -> None:
+            with open(self.path("log/000001.jsonl"), "a", encoding="utf-8") as file:
+                file.write(pieces.pop(0))
+        with mock.patch("time.sleep", go_on):
+            wait_for_changes(load, self.room)
+            self.assertEqual(pieces, ["no line"])
+            load.stored.clear()
+            with mock.patch("time.monotonic", mock.Mock(side_effect=[0.0, SHOWN - 1, SHOWN])):
+                wait_for_changes(load, self.room)
+        self.assertEqual(pieces, [])
 
     def test_one_that_has_all_differs_in_nothing(self) -> None:
         self.assertEqual(self.differences(True, True), [])

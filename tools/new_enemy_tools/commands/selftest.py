@@ -23,7 +23,7 @@ from argparse import Namespace
 
 from new_enemy_tools.commands.running import Parser, add_program
 from new_enemy_tools.coverage import INCOMPLETE
-from new_enemy_tools.fitting.comparing import Compared, compared
+from new_enemy_tools.fitting.comparing import Compared, compared, wait_for_changes
 from new_enemy_tools.fitting.guard import Guard
 from new_enemy_tools.fitting.load import BASE, CLIENTS, Load
 from new_enemy_tools.fitting.services import OpenFga, Service, SpiceDb
@@ -80,6 +80,7 @@ def run(given: Namespace, room: str) -> Compared:
     try:
         guard.begun()
         load.run()
+        wait_for_changes(load, room)
         is_clean = guard.over()
         found = compared(load, room, given.program)
         return found if is_clean else found._replace(differs=[*found.differs, "not all could be taken away"])

@@ -5,6 +5,7 @@ import io
 import json
 import os
 import subprocess
+import time
 from collections import Counter
 from typing import Any, Iterable, Iterator, NamedTuple
 
@@ -16,6 +17,10 @@ from new_enemy_tools.fitting.load import Decision, Load
 from new_enemy_tools.fitting.services import Tuple
 from new_enemy_tools.meaning import Settled
 from new_enemy_tools.trace import Trace, read_trace
+
+
+# So long it may take until the log has what was written last.
+SHOWN = 20.0
 
 
 class Compared(NamedTuple):
@@ -38,7 +43,8 @@ class Log:
         self.of: dict[str, Decision] = {}
         self.stored: set[Tuple] = set()
         for path in paths:
-            for number, line in enumerate(read_bytes(path).splitlines(), 1):
+            # Of a log that is still written the last line may be there by half.
+            for number, line in enumerate(read_bytes(path).rpartition(b"\n")[0].splitlines(), 1):
                 self._take("%s:%d" % (path, number), json.loads(line), prefix)
 
     def _take(self, place: str, row: dict[str, Any], prefix: str) -> None:
@@ -47,6 +53,17 @@ class Log:
         elif row["event"] == "write":
             self.stored -= {_tuple_of(one, prefix) for one in row.get("remove", ())}
             self.stored |= {_tuple_of(one, prefix) for one in row.get("add", ())}
+
+
+def _paths(room: str) -> list[str]:
+    return sorted(glob.glob(os.path.join(room, "log", "*.jsonl")))
+
+
+def wait_for_changes(load: Load, room: str) -> None:
+    """Until the log has all that was written: a recorder that is ended waits for the changes alone that checks need."""
+    until = time.monotonic() + SHOWN
+    while Log(_paths(room), load.service.place).stored != load.stored and time.monotonic() < until:
+        time.sleep(0.1)
 
 
 def _said(decision: Decision) -> str:
@@ -83,7 +100,7 @@ def _of_audit(trace: Trace, text: str, log: Log) -> Iterator[str]:
 
 def compared(load: Load, room: str, program: str) -> Compared:
     failed = ["%s (%d)" % one for one in sorted(load.failed.items())]
-    paths = sorted(glob.glob(os.path.join(room, "log", "*.jsonl")))
+    paths = _paths(room)
     trace, said = os.path.join(room, "trace.jsonl"), io.StringIO()
     with contextlib.redirect_stderr(said):
         import_logs.main(["events", *paths, "--trace", trace, "--ids", os.path.join(room, "ids.jsonl"), "--jobs", "1"])

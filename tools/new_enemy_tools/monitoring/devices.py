@@ -249,8 +249,9 @@ class Machine:
         if self.is_caught_up or now - self.began > self.way.settings.most_lag:
             self._do(self.core.look(wall))
         self.journal.sync()
-        self.shown = exposition(self.core, self.before, wall, self.is_caught_up)
+        # Before the numbers: who reads these and asks then whether it is well is told of no look before theirs.
         self.is_well = self.is_caught_up and not any(self.core.passed.values())
+        self.shown = exposition(self.core, self.before, wall, self.is_caught_up)
         self.live_page = live_of(self.core, self.before, self.way.logs, wall, self.is_caught_up)
 
     # The end

@@ -1,5 +1,4 @@
 """The program that follows a trace, as a process: lines in, and what it says as messages."""
-import signal
 import subprocess
 import tempfile
 from queue import Queue, SimpleQueue
@@ -7,13 +6,12 @@ from threading import Thread
 from typing import Any, BinaryIO, NamedTuple, Optional, cast
 
 from new_enemy_tools.faults import DeviceFault, MonitorFault, ToolFault, WindowFault
+from new_enemy_tools.held_signals import held_back
 
 # So many pieces of a trace wait at most until the program reads them.
 WAITING = 16
 # The program's status where it refuses what it reads; others are of devices and memory.
 REFUSES = 2
-# Who tells the monitor to stop by these may tell the program too (systemd, a terminal); the monitor alone ends it.
-OF_THE_MONITOR = {signal.SIGTERM, signal.SIGINT, signal.SIGHUP}
 
 
 class _Feeder:
@@ -64,15 +62,12 @@ class Follower:
     def __init__(self, program: str, words: list[str], inbox: "SimpleQueue[Any]"):
         self.program, self.inbox = program, inbox
         self._error = tempfile.TemporaryFile()
-        # A program begins with the signals held back that are held back where it is started.
-        held = signal.pthread_sigmask(signal.SIG_BLOCK, OF_THE_MONITOR)
         try:
-            self._process = subprocess.Popen([program, "follow", "--heartbeat", *words], stdin=subprocess.PIPE,
-                                             stdout=subprocess.PIPE, stderr=self._error)
+            with held_back():
+                self._process = subprocess.Popen([program, "follow", "--heartbeat", *words], stdin=subprocess.PIPE,
+                                                 stdout=subprocess.PIPE, stderr=self._error)
         except OSError as fault:
             raise DeviceFault("cannot run %s: %s" % (program, fault.strerror)) from None
-        finally:
-            signal.pthread_sigmask(signal.SIG_SETMASK, held)
         assert self._process.stdin is not None
         self._feeder = _Feeder(cast(BinaryIO, self._process.stdin))
         self._thread = Thread(target=self._read, daemon=True)

@@ -4,6 +4,7 @@ import shutil
 import subprocess
 import tempfile
 from concurrent.futures import FIRST_EXCEPTION, ThreadPoolExecutor, wait
+from contextlib import suppress
 from typing import IO, Callable, Iterable, Optional
 
 from new_enemy_tools.parting.manifest import Manifest, part_files, read_manifest, report_path
@@ -29,7 +30,9 @@ def audit(program: str, trace: str, evidence: Optional[str], output: IO[bytes], 
                 process.stdin.write(behind)
             process.stdin.close()
         except BrokenPipeError:
-            pass
+            # Else what was not written would be tried again.
+            with suppress(BrokenPipeError):
+                process.stdin.close()
     return process.returncode
 
 

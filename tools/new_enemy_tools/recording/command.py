@@ -17,6 +17,7 @@ from typing import Any, NamedTuple, Optional
 from urllib.parse import SplitResult, urlsplit
 
 from new_enemy_tools.commands.running import Parser
+from new_enemy_tools.held_signals import held_back
 from new_enemy_tools.recording import openfga, spicedb
 from new_enemy_tools.recording.beside import Word
 from new_enemy_tools.recording.spicedb_http import HttpSource
@@ -176,8 +177,10 @@ class Proxy:
         mine.setblocking(False)
         mine.setsockopt(socket.SOL_SOCKET, socket.SO_SNDBUF, 1 << 20)
         word = ["--openfga" if self.settings.service == "openfga" else "--spicedb", self.settings.url]
-        self.keeper = subprocess.Popen([sys.executable, ENTRY, *word, "--listen", ":0", "--out", self.settings.folder, "--keep",
-                                        str(its.fileno())], pass_fds=(its.fileno(),), stdin=subprocess.PIPE, start_new_session=True)
+        with held_back():
+            self.keeper = subprocess.Popen([sys.executable, ENTRY, *word, "--listen", ":0", "--out", self.settings.folder,
+                                            "--keep", str(its.fileno())],
+                                           pass_fds=(its.fileno(),), stdin=subprocess.PIPE, start_new_session=True)
         its.close()
         assert self.keeper.stdin is not None
         # What the keeper needs to know, with the key, stands on no command line.
@@ -295,9 +298,7 @@ def service_of(settings: Settings) -> tuple[Service, Feed]:
 
 
 def keep(descriptor: int) -> int:
-    """The keeper's process, which ends when the proxy does."""
-    for number in (signal.SIGTERM, signal.SIGINT, signal.SIGHUP):
-        signal.signal(number, signal.SIG_IGN)
+    """The keeper's process, which ends when the proxy does; signals that end this one are held back from it."""
     settings = Settings(*json.loads(sys.stdin.buffer.read()))
     return Keeper(settings, *service_of(settings), socket.socket(fileno=descriptor)).run()
 
