@@ -1,7 +1,9 @@
 """How long a recorder takes to begin in front of a store of OpenFGA that is large, and how much memory, beside how long it takes to ask the
 service alone for all its changes: recording_base.py TUPLES ..
 
-The service is a stand-in that answers each page of changes at once; a tuple was written each millisecond.
+The service is a stand-in that answers each page of changes at once; a tuple was written each millisecond. Meanwhile a
+client asks some 20 checks a second through the recorder: how many had their answer, how many of these the log has and
+how many its gaps count, and how long the slowest took.
 """
 import http.client
 import json
@@ -9,7 +11,9 @@ import os
 import subprocess
 import sys
 import tempfile
+import threading
 import time
+from collections import Counter
 
 TOOLS = os.path.dirname(os.path.dirname(os.path.abspath(__file__)))
 sys.path.append(TOOLS)
@@ -25,6 +29,10 @@ MODEL = {"schema_version": "1.1", "id": "M", "type_definitions": [
 
 class Large(Handler):
     count = 0
+
+    def do_POST(self):
+        self.body()
+        self.answer({"allowed": True})
 
     def do_GET(self):
         path, _, query = self.path.partition("?")
@@ -73,23 +81,66 @@ def seconds_alone(port, count):
     return time.monotonic() - began
 
 
+class Client(threading.Thread):
+    """Asks checks until it is told that it is over."""
+
+    def __init__(self, port):
+        super().__init__(daemon=True)
+        self.port, self.answered, self.slowest, self.is_over = port, 0, 0.0, False
+
+    def run(self):
+        asker, body = http.client.HTTPConnection("127.0.0.1", self.port), json.dumps({"tuple_key": {
+            "user": "user:u1", "relation": "viewer", "object": "document:d1"}})
+        while not self.is_over:
+            began = time.monotonic()
+            try:
+                asker.request("POST", "/stores/S/check", body)
+                asker.getresponse().read()
+                self.answered, self.slowest = self.answered + 1, max(self.slowest, time.monotonic() - began)
+            except ConnectionRefusedError:
+                # It does not listen yet.
+                asker.close()
+            time.sleep(0.05)
+
+    def end(self):
+        self.is_over = True
+        self.join()
+
+
+def counted(folder):
+    """How many checks a log has, and how many its gaps count."""
+    found = Counter()
+    for name in sorted(os.listdir(folder)):
+        with open(os.path.join(folder, name), "rb") as file:
+            for line in file:
+                if line.startswith(b'{"event":"check"'):
+                    found["recorded"] += 1
+                elif line.startswith(b'{"event":"gap"'):
+                    found["lost"] += json.loads(line).get("lost", 0)
+    return found
+
+
 def measured(count):
     port = free_port()
     service = subprocess.Popen([sys.executable, os.path.abspath(__file__), "--serve", str(count), str(port)])
     with tempfile.TemporaryDirectory() as room, open(os.path.join(room, "said"), "w+", encoding="utf-8") as said:
-        alone, began = seconds_alone(port, count), time.monotonic()
+        alone, listens, began = seconds_alone(port, count), free_port(), time.monotonic()
         recorder = subprocess.Popen([sys.executable, os.path.join(TOOLS, "record"), "--openfga", "http://127.0.0.1:%d" % port, "--listen",
-                                     "127.0.0.1:%d" % free_port(), "--out", os.path.join(room, "log")], stderr=said)
+                                     "127.0.0.1:%d" % listens, "--out", os.path.join(room, "log")], stderr=said)
+        client = Client(listens)
+        client.start()
         try:
             while "recording" not in open(said.name, encoding="utf-8").read():
                 time.sleep(0.1)
             took, size = time.monotonic() - began, most_bytes(recorder.pid)
-            log = sum(os.path.getsize(os.path.join(room, "log", name)) for name in os.listdir(os.path.join(room, "log")))
-            print(json.dumps({"tuples": count, "alone": round(alone, 1), "seconds": round(took, 1), "bytes": size, "a tuple": round(size / count),
-                              "log": log}))
-        finally:
+            client.end()
             recorder.terminate()
             recorder.wait()
+            log = sum(os.path.getsize(os.path.join(room, "log", name)) for name in os.listdir(os.path.join(room, "log")))
+            print(json.dumps({"tuples": count, "alone": round(alone, 1), "seconds": round(took, 1), "bytes": size, "a tuple": round(size / count),
+                              "log": log, "answered": client.answered, "slowest": round(client.slowest, 3), **counted(os.path.join(room, "log"))}))
+        finally:
+            recorder.kill()
             service.kill()
             service.wait()
 

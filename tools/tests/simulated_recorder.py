@@ -34,7 +34,7 @@ from new_enemy_tools.recording.messages import Beat, Bye, Ended, Teller
 from new_enemy_tools.recording.openfga import Base, OpenFga, call_of
 from new_enemy_tools.recording.relay import Relay
 from tests.simulated_network import Clock, Nobody, Pipe, Transport, Wire
-from tests.simulation import GOALS, STEP, STORE, TUPLES, WALL, Asked, Shape, Verdict, World, key_of, model_of
+from tests.simulation import GOALS, STEP, STORE, TUPLES, WALL, Asked, Shape, Verdict, World, holds, key_of, model_of
 
 PATHS = (b"/stores/S/check", b"/stores/S/%63heck", b"/stores/%53/check#x", b"http://host/stores/S/check?x", b"/stores/S/./check")
 # Not all services take these for checks; this one does.
@@ -144,8 +144,8 @@ class Kept(Keeper):
         super().__init__(settings, service, openfga_feed.OpenFgaFeed(settings, Source(world)), Pipe(world, self))
         self.world, self.inbox = world, deque()
         self.is_open = self.is_busy = False
-        # writes of which it has heard, and its log has nothing yet
-        self.heard = []
+        # writes of which it has heard, and its log has nothing yet; and when it, or one before it, had learnt how late the changes are shown
+        self.heard, self.learnt = [], None
         # as of a world; `read` is what was known from the readings
         self.known, self.read, self.since, self.whole, self.first, self.last_began = [], [], {}, set(), None, 0
 
@@ -168,6 +168,8 @@ class Kept(Keeper):
             self._take([message], 0)
             self._write()
             self._has_noted(message)
+            if self.learnt is None and self.core.service.horizon >= self.world.service.horizon:
+                self.learnt = self.world.now
         self.is_busy = False
         if self.core.is_over and self.gone_at is None:
             self.core.end_asked(self.world._at())
@@ -644,6 +646,7 @@ class Whole(World):
             else:
                 known = self.before.read + known
                 kept.since = {**{one[4]: 0 for one in found}, **self.before.since}
+                kept.learnt = self.before.learnt
         else:
             since = max(0, kept.last_began - self.shape.horizon)
             for at in self.service.models[:self.model]:
@@ -841,11 +844,19 @@ class OfWhole(Verdict):
         if not world.has_troubles and len(self.entries) + self.lost + self.elsewhere != len(answered):
             yield "%d checks were answered, and %d stand in the log and %d are counted" % (len(answered), len(self.entries), self.lost + self.elsewhere)
 
-    def _saw_unanswered(self, one):
-        world = self.world
-        answered = {thing.committed: at for at, thing in world.writes.items()}
-        return world.service.horizon > world.shape.told_horizon and any(
-            at <= one.ended < answered.get(at, 1 << 62) for at in world.service.times if at > one.began - 40 * STEP)
+    def _saw_unanswered(self, one, times):
+        """Where changes come late and its keeper was told of no horizon, nor had learnt it: whether a check is right by
+        none of its states as they are without the changes of which no answer had told."""
+        world, kept, states, state = self.world, one.world, {}, set(self.world.service.states[0])
+        if world.service.horizon <= world.shape.told_horizon or kept.learnt is not None and kept.learnt <= one.ended:
+            return False
+        told = {at for when, at in kept.known if when <= one.ended}
+        told |= {thing.committed for when, thing in world.writes.items() if thing.is_noted and when <= one.ended}
+        for at in world.service.times:
+            for given, live in world.service.changes.get(at, ()) if at in told else ():
+                (state.add if live else state.discard)(given)
+            states[at] = frozenset(state)
+        return not any(holds(states[at], one.goal) == one.reply for at in times)
 
     def _of_lines(self, answered):
         for time, (row, _) in self.entries.items():

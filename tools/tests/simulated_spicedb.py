@@ -243,21 +243,22 @@ class Apart(Tokens):
 
 
 class Killed(Tokens):
-    """The keeper is killed at any moment, and another goes on in its folder, which the proxy tells what it could not tell; the schema stays."""
+    """The keeper is killed at any moment, and another goes on in its folder, which the proxy tells what it could not tell; or the proxy is killed
+    with it, and nothing passes until another has begun. The schema stays."""
 
     def __init__(self, seed, shape, folder):
         super().__init__(seed, shape)
         self.folder, self.log, self.kills = folder, None, Random("kills %d" % seed)
-        # what the proxy remembers, and what it could tell nobody; and when each keeper began, with the newest commit of its log
+        # what the proxy remembers, and what it could tell nobody; and when each keeper began, with the newest commit that the service had
         self.writes, self.untold, self.begun = Writes(), [], []
-        # the commits of writes that passed; and answers of checks that no keeper had seen begin
-        self.written, self.unheard = set(), set()
+        # when a proxy was killed last, and whether there is none
+        self.killed_at, self.is_down = 0, False
 
     def run(self):
         clock = Clock(self, None)
         with mock.patch.object(log_files, "time", clock), mock.patch.object(log_files, "LATER", 20 * STEP / 1e9):
             for _ in range(self.kills.choice((1, 1, 2))):
-                self.later(5, self.shape.length, self._kill)
+                self.later(5, self.shape.length, self.kills.choice((self._kill, self._kill_both)))
             super().run()
             self.log.close()
             os.close(self.log._lock)
@@ -283,9 +284,7 @@ class Killed(Tokens):
         self.feed = Feed(self)
         self.core.take(self.feed._base(self.core.left), self._at())
         self._drain()
-        last = max(json.loads(line)["revision"] for _, line in self._lines() if b'"event":"write"' in line)
-        numbers = not isinstance(self.tokens, Snapshots)
-        self.begun.append((self.now, (last // DECIMALS - FIRST) // NEXT if numbers else self.base + last))
+        self.begun.append((self.now, self.head))
         self.own(1, 3, self._read_of, self.feed)
 
     def _again(self, token):
@@ -327,7 +326,14 @@ class Killed(Tokens):
         self.feed, self.core = None, Core(SpiceDb(), self.shape.hold / 1e9)
         self.later(2, 30, self._start_again)
 
+    def _kill_both(self):
+        """What passes has no answer, and nobody remembers what had one."""
+        if self.log is not None and self.feed is not None:
+            self._kill()
+            self.killed_at, self.is_down, self.writes, self.untold = self.now, True, Writes(), []
+
     def _start_again(self):
+        self.is_down = False
         if self.untold:
             self.core.take(Lost(WALL + self.untold[0], WALL + self.now, len(self.untold), "the keeper of the log was gone"), self._at())
         for message in self.writes.kept:
@@ -345,27 +351,34 @@ class Killed(Tokens):
         if isinstance(message, Ended):
             self.writes.keep(message)
         if self.feed is None:
-            self.untold += [self.now] if way == "proxy" else []
+            self.untold += [self.now] if way == "proxy" and not self.is_down else []
         else:
             super()._tell(way, message)
 
     def known_at(self, at, is_sure):
-        """What keepers before had from answers of checks goes with them; what their logs have stays, and so do writes."""
+        """What keepers before had from answers goes with them; the next asks what the service has by then."""
+        began, head = max((one for one in self.begun if one[0] <= at), default=(0, self.base))
         if not is_sure:
-            return super().known_at(at, is_sure)
-        began, logged = max((one for one in self.begun if one[0] <= at), default=(0, self.base))
-        shown = [place for told, place, is_change in self.known if not is_change and told <= at and (
-            place in self.written or told >= began and (told, place) not in self.unheard)]
-        return max([*shown, logged])
+            return max(head, super().known_at(at, is_sure))
+        return max([head, *(place for told, place, is_change in self.known if not is_change and began <= told <= at)])
+
+    def _write(self):
+        ours = self.shape.ours
+        self.shape.ours = 0 if self.is_down else ours
+        super()._write()
+        self.shape.ours = ours
 
     def _answer_write(self, number, asked, place):
-        self.written.add(place)
-        super()._answer_write(number, asked, place)
+        if asked > self.killed_at:
+            super()._answer_write(number, asked, place)
+
+    def _ask(self, asked):
+        if not self.is_down:
+            super()._ask(asked)
 
     def _answer(self, asked):
-        super()._answer(asked)
-        if self.feed is None or asked.began < self.begun[-1][0]:
-            self.unheard.add((self.now, asked.at))
+        if asked.began > self.killed_at:
+            super()._answer(asked)
 
 
 def relation_of(given):

@@ -568,13 +568,13 @@ class Verdict:
         stale = 0 if one.newest or one.save else self.world.shape.stale
         first, last = service.index(max(0, one.began - stale)), service.index(one.ended)
         was_right = any(holds(service.states[at], one.goal) == one.reply for at in range(first, last + 1))
-        if was_right and not is_passed and not one.is_planted and not self._saw_unanswered(one):
+        if was_right and not is_passed and not one.is_planted and not self._saw_unanswered(one, service.times[first:last + 1]):
             yield "a right reply is called wrong (check %d)" % one.number
         if is_passed and not self._may_be(one, one.began - stale):
             yield "a wrong reply is called right (check %d)" % one.number
 
-    def _saw_unanswered(self, one):
-        """Whether a check may have seen by an early look what is shown late, and nobody said so."""
+    def _saw_unanswered(self, one, times):
+        """Whether a check that looked at one of some times saw what is shown late, and nobody could say so."""
         return False
 
     def _of_version(self, one, row, high):
@@ -592,8 +592,8 @@ class Verdict:
 
     def _known_before(self, one):
         """The changes that were known when a check began, by how often each came; but for those of tuples that came and went meanwhile, of
-        which it is not known which write made which."""
-        known = {at for told, at in one.world.known if told <= one.began and at > self.world.based}
+        which it is not known which write made which, and those that are never shown, and have no place."""
+        known = {at for told, at in one.world.known if told <= one.began and at > self.world.based} - self.world.service.hidden
         changes = self.world.service.changes
         recent = Counter(given for at in changes if one.began - 40 * STEP < at <= one.began for given, _ in changes[at])
         return Counter((tuple(part for part in given if part is not None), "add" if live else "remove")

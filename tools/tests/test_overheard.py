@@ -127,6 +127,10 @@ class Simulated(SimulatedCase):
         self.assert_holds(*range(SEEDS))
         self.assertGreater(2 * self.recorded, self.lost)
 
+    def test_a_content_check_that_was_denied(self):
+        """It asks for the newest state, also where a log names no version of it."""
+        self.assert_holds(61018229)
+
     def test_a_model_that_changes(self):
         self.assert_holds(*range(SEEDS // 3), models=True)
 
@@ -181,6 +185,19 @@ class Parts(Case):
     def test_versions_that_somebody_adds_to_the_log(self):
         made, _ = joined(log((10, "a")), [logged(15, content={"version": "v"}), logged(16, version="v")])
         self.assertEqual([(row["event"], row.get("version")) for row in made if row["event"] in ("check", "content")], [("content", "v"), ("check", "v")])
+
+    def test_a_content_check_without_a_version(self):
+        """It has one exactly where it was allowed."""
+        for response, content, wanted in (({}, {}, ("content", None)), ({}, {"version": "v"}, ("content", None)),
+                                          (None, {}, ("unmapped", causes.CONTENT_ODD))):
+            made, _ = joined(log((10, "a")), [logged(15, {"consistency": None}, response, content=content)])
+            found = [row for row in made if row["event"] in ("check", "content", "unmapped")]
+            self.assertEqual([(row["event"], row.get("reason") or row.get("version")) for row in found], [wanted])
+        made, _ = joined(TOKENS, [payload(1, 5, ASKED, content={}), payload(1, 6, told(1, 1)),
+                                  payload(2, 5, ASKED, content={}), payload(2, 6, told(1))])
+        found = [row for row in made if row["event"] in ("check", "content", "unmapped")]
+        self.assertEqual([(row["event"], row.get("token"), row.get("reason")) for row in found],
+                         [("content", None, None), ("unmapped", None, causes.CONTENT_ODD)])
 
     def test_what_has_no_decision_is_counted(self):
         rows = [{"level": "info", "msg": "starting"}, logged(15), logged(15, method="Write"), logged(15, response={}, grpc_code=5, error="x"),

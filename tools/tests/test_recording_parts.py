@@ -43,7 +43,7 @@ ANSWER = b"HTTP/1.1 200 OK\r\nContent-Type: application/json\r\n"
 
 def still():
     """A service of which nothing comes."""
-    return mock.Mock(doubts=(), late=lambda before: [], noted=lambda revision: ([], []))
+    return mock.Mock(doubts=(), learnt=0.0, late=lambda before: [], noted=lambda revision: ([], []))
 
 
 def read_along(data, sizes):
@@ -460,13 +460,14 @@ class Files(Case):
         return [os.path.join(self.path("log"), name) for name in sorted(os.listdir(self.path("log"))) if name.endswith(".jsonl")]
 
     def test_what_is_in_doubt_stays_so_until_a_line_says_else(self):
-        """Over the end of a file too; and the last changes of the base state are known to come again."""
+        """Over the end of a file too, as how late changes are shown; and the last changes of the base state are known to
+        come again."""
         one = ("document", "d", "viewer", "user", "a")
         log, _ = self.log(size=600)
         log.add(line("feed", store="S", changes=2, last=[[one, True], [None, True]]))
         self.begin(log)
-        log.place = Place("c", 0, "r", 2, doubts=(one,))
-        log.add(line("place", **log.place.keys, doubts=[one]) + line("place", **log.place.keys))
+        log.place = Place("c", 0, "r", 2, doubts=(one,), late=1.5)
+        log.add(line("place", **log.place.keys, doubts=[one], late=1.5) + line("place", **log.place.keys))
         log.add(write_line(1, [], []) * 5)
         os.close(log._lock)
         self.assertGreater(len(self.paths()), 1)
@@ -474,7 +475,8 @@ class Files(Case):
         self.assertEqual((left.place.doubts, [known[:2] for known in left.changes[:2]]), ((one,), [(one, True), (None, True)]))
         log.add(line("place", **log.place.keys, doubts=[]))
         os.close(log._lock)
-        self.assertEqual(self.log()[1].place.doubts, ())
+        place = self.log()[1].place
+        self.assertEqual((place.doubts, place.late), ((), 1.5))
 
     def test_writes_that_are_not_shown(self):
         """Those that no line has settled are left to the next recorder, over the end of a file too, and where it is ended before it goes on."""

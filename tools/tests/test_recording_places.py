@@ -308,6 +308,26 @@ class Writes(Case):
         self.read(8, 20, change("a"))
         self.assertEqual(self.service.horizon, 17)
 
+    def test_a_horizon_that_was_learnt_is_known_to_the_next_recorder(self):
+        """It may begin within milliseconds, when changes that had come are not shown yet; and no write may pass."""
+        self.write(3, 4, "a")
+        self.read(5, 6)
+        self.read(8, 20, change("a"))
+        self.assertEqual([row["late"] for row in map(json.loads, self.lines) if "late" in row], [1.7e-08])
+        for _ in range(2):
+            self.go_on(30)
+            self.assertEqual((self.service.horizon, [row for row in map(json.loads, self.lines) if "late" in row]), (17, []))
+        self.check(31, 32)
+        self.read(40, 41)
+        self.assertEqual(len(self.service.waits), 1)
+        self.read(50, 51)
+        self.assertEqual(self.service.waits, [])
+
+    def test_a_horizon_of_a_log_is_at_most_half_of_what_a_check_waits(self):
+        self.core.place = self.core.place._replace(late=1000.0)
+        self.go_on(30)
+        self.assertEqual(self.service.horizon, 15 * SECOND)
+
     def test_a_write_that_need_change_nothing_proves_nothing(self):
         self.write(3, 4, "a", on_duplicate="ignore")
         self.read(5, 9, change("a"))

@@ -22,8 +22,8 @@ KEYS = {"rules": EVERY_EVENT | {"revision", "model", "namespaces", "came"},
         "write": EVERY_EVENT | {"revision", "base", "add", "remove", "came"},
         "check": ENTRY | {"newest"}, "content": ENTRY | {"newest"},
         "gap": EVERY_EVENT | {"from", "to", "reason", "lost"}, "elsewhere": EVERY_EVENT | {"count"}, "unmapped": EVERY_EVENT | {"reason", "detail", "userset", "version", "base"},
-        "feed": EVERY_EVENT | {"store", "changes", "last"}, "read": EVERY_EVENT | {"until", "revision", "unsure"}, "log": EVERY_EVENT | {"number", "before", "service", "store", "hold", "cursor", "revision", "rules_sha256", "behind", "apart", "doubts", "unshown"},
-        "place": EVERY_EVENT | {"cursor", "revision", "rules_sha256", "behind", "apart", "doubts", "unshown", "shown"}, "closed": EVERY_EVENT | {"count", "sha256", "full"}}
+        "feed": EVERY_EVENT | {"store", "changes", "last"}, "read": EVERY_EVENT | {"until", "revision", "unsure"}, "log": EVERY_EVENT | {"number", "before", "service", "store", "hold", "cursor", "revision", "rules_sha256", "behind", "apart", "doubts", "late", "unshown"},
+        "place": EVERY_EVENT | {"cursor", "revision", "rules_sha256", "behind", "apart", "doubts", "late", "unshown", "shown"}, "closed": EVERY_EVENT | {"count", "sha256", "full"}}
 # Lines of a recorder for itself and for the chain of its files.
 RECORDER = frozenset(("log", "feed", "read", "place", "closed"))
 NAMESPACE, RELATION = frozenset(("name", "relations")), frozenset(("name", "rewrite"))

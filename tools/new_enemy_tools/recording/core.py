@@ -80,6 +80,9 @@ class Service(Protocol):
     def end(self, message: Ended, asked: Asked, core: "Core") -> None:
         """A call has its answer."""
 
+    def overhear(self, message: Ended) -> None:
+        """A check that is not recorded has its answer."""
+
     def waiting(self) -> bool:
         """Whether entries wait for the feed."""
 
@@ -89,6 +92,10 @@ class Service(Protocol):
     @property
     def doubts(self) -> Doubts:
         """The tuples of which it is not known whether they are there."""
+
+    @property
+    def learnt(self) -> float:
+        """How late the changes are shown at least, in seconds, as far as that was learnt."""
 
     def unshown(self) -> list[Unshown]:
         """The writes that had their answer and are not shown yet."""
@@ -253,6 +260,8 @@ class Core:
         elif is_late:
             self.lose("an answer took longer than %g seconds" % self.hold, message.begun)
         elif asked is None or asked.is_early:
+            if self.is_ready and message.response is not None:
+                self.service.overhear(message)
             self.lose("the recorder was beginning", message.begun)
         elif message.response is None:
             self.forget(message.number)
@@ -411,6 +420,9 @@ class Core:
         if self.is_ready and self.service.doubts != self.place.doubts:
             self.place = self.place._replace(doubts=self.service.doubts)
             made.append(place_line(self.place, doubts=self.place.doubts))
+        if self.is_ready and self.service.learnt != self.place.late:
+            self.place = self.place._replace(late=self.service.learnt)
+            made.append(place_line(self.place, late=self.place.late))
         return made
 
     # The end

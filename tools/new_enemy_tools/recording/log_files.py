@@ -74,6 +74,7 @@ class Place(NamedTuple):
 
     `behind` is how many changes the log has that come again where the service goes on by that; those of the revisions `apart`, among the
     last so many, do not. `store` is OpenFGA's, where that is known. Of the tuples in `doubts` it is not known whether they are there.
+    `late` is how late the changes are shown at least, in seconds, where a write had proved it.
     """
 
     cursor: Optional[str]
@@ -83,10 +84,11 @@ class Place(NamedTuple):
     apart: tuple[int, ...] = ()
     store: Optional[str] = None
     doubts: Doubts = ()
+    late: float = 0.0
 
     @property
     def keys(self) -> dict[str, Any]:
-        """As it stands in a line; the doubts only where they are others than before, and in the first of a file."""
+        """As it stands in a line; `doubts` and `late` only where they are others than before, and in the first of a file."""
         return {"cursor": self.cursor, "revision": self.revision, "rules_sha256": self.rules, "behind": self.behind or None,
                 "apart": list(self.apart) or None}
 
@@ -206,7 +208,7 @@ class LogFiles:
                 if kind in ("log", "feed"):
                     store = value.get("store")
                 if kind in ("log", "place"):
-                    place, writes = _place_of(value, place.doubts), 0
+                    place, writes = _place_of(value, place), 0
                     revision = place.revision
                     if kind == "log":
                         wanted = value.get("unshown", 0)
@@ -313,7 +315,7 @@ class LogFiles:
         unshown = [one.values for one in self.unshown()]
         head = line("log", number=self.number + 1, before=self.before, service=self.service, store=self.place.store,
                     hold=self.hold or None, time=time_text(until), **self.place.keys, doubts=self.place.doubts or None,
-                    unshown=len(unshown) or None)
+                    late=self.place.late or None, unshown=len(unshown) or None)
         more = [line("place", **self.place.keys, unshown=unshown[at:at + ON_A_LINE]) for at in range(0, len(unshown), ON_A_LINE)]
         try:
             self._put(head + b"".join(more))
@@ -421,9 +423,10 @@ def _value_of(raw: bytes) -> Optional[dict[str, Any]]:
     return value if isinstance(value, dict) else None
 
 
-def _place_of(value: dict[str, Any], doubts: Doubts) -> Place:
+def _place_of(value: dict[str, Any], before: Place) -> Place:
+    doubts = tuple(map(tuple, value["doubts"])) if "doubts" in value else before.doubts
     return Place(value.get("cursor"), value.get("revision", 0), value.get("rules_sha256"), value.get("behind", 0), tuple(value.get("apart", ())),
-                 doubts=tuple(map(tuple, value["doubts"])) if "doubts" in value else doubts)
+                 doubts=doubts, late=value.get("late", before.late))
 
 
 def _is_cut_head(path: str) -> bool:

@@ -186,8 +186,9 @@ class OpenFga:
         self.live: dict[Relationship, bool] = {}
         # tuples of which it is not known whether they are there, and why; and until when their changes may have come
         self.tainted: dict[Optional[Relationship], Taint] = {}
-        # these as a line has them, for the recorder that goes on
+        # these as a line has them, for the recorder that goes on; and the horizon that was learnt, in seconds
         self.doubts: Doubts = ()
+        self.learnt = 0.0
         # of each change its time, or the latest before it, and its revision
         self.times: list[int] = []
         self.stands: list[int] = []
@@ -237,13 +238,14 @@ class OpenFga:
         core.sequencer.reached = revision
         behind = (left.writes if left else 0) + place.behind + len(base.changes)
         self.tainted = {Relationship(*one) if one else None: Taint(ODD, base.received) for one in place.doubts}
-        self.doubts = place.doubts
+        self.doubts, self.learnt = place.doubts, place.late
+        self.horizon = max(self.horizon, min(round(self.learnt * 1e9), self.hold // 2))
         self.last_live = {one.given: one.live for one in (left.changes if left else ()) if one.given is not None}
         self.last_live.update((one.form, one.live) for one in base.changes if one.form is not None)
         if left is not None:
             self._take_unshown(left, base, core)
         self.early = Writes()
-        place = Place(base.cursor, revision, rules.hash, behind, place.apart, base.store, place.doubts)
+        place = Place(base.cursor, revision, rules.hash, behind, place.apart, base.store, place.doubts, place.late)
         core.begin_log(Begun(lines if left else self._base_lines(rules.data, base), is_empty, place))
 
     def _take_unshown(self, left: Left, base: Base, core: Core) -> None:
@@ -383,7 +385,7 @@ class OpenFga:
         if late > self.horizon:
             for row in self.places.rows[-STATES:]:
                 row.low -= late - self.horizon
-            self.horizon = late
+            self.horizon, self.learnt = late, late / 1e9
 
     def _put_rows(self, rows: list[Row], message: Changes, odd: list[Change], core: Core) -> None:
         for row in rows:
@@ -546,6 +548,9 @@ class OpenFga:
 
     def known(self, clock: int) -> int:
         return self.places.known(clock)
+
+    def overhear(self, message: Ended) -> None:
+        """No answer says what it saw."""
 
     def waiting(self) -> bool:
         return bool(self.waits)

@@ -34,6 +34,8 @@ OVER_GRPC = "a check over gRPC in a tap"
 CUT_SHORT = "a check whose body Envoy cut short"
 STREAMED = "a streamed list in a tap, of which it is not known when it ended"
 TOKEN = "a token beside a check that no recorder passed"
+# What stands for the version of a content check that saves none.
+UNNAMED = "-"
 # Keys by which an import places a line of the log.
 PLACES = ("snapshot", "snapshot_between", "token", "newest")
 ANSWERS = {"openfga": openfga_answers.answers_of, "spicedb": spicedb_answers.answers_of}
@@ -41,7 +43,8 @@ ANSWERS = {"openfga": openfga_answers.answers_of, "spicedb": spicedb_answers.ans
 
 class Call(NamedTuple):
     """A call that decides: of which store, what was asked and answered, as far as that is known, from when to when, what the application says
-    with it, and why it can't be taken; of SpiceDB also the token that is stored with a version."""
+    with it, and why it can't be taken; of SpiceDB also the token that is stored with a version. `is_content` says
+    whether it is a content check: of one that was denied a log has no version."""
 
     store: str
     asked: object
@@ -53,6 +56,7 @@ class Call(NamedTuple):
     why: Optional[str] = None
     service: str = "openfga"
     token: Optional[str] = None
+    is_content: bool = False
 
 
 def overheard(name: str, rows: Iterable[Row], took: int) -> Own:
@@ -92,10 +96,14 @@ def _values(call: Call) -> Iterator[Value]:
     except Bad as fault:
         yield _unread(call, {**lost, "reason": causes.UNREADABLE, "detail": str(fault)})
         return
-    message = Ended(0, "", "", call.began, call.ended, 0, call.save, call.version, None, 200, None, None, None, call.why)
+    is_unnamed = call.is_content and call.save is None
+    save = UNNAMED if is_unnamed else call.save
+    message = Ended(0, "", "", call.began, call.ended, 0, save, call.version, None, 200, None, None, None, call.why)
     try:
         refuse_headers(message, answers)
-        said = {"saves": call.save, "shows": call.version, **(_of_tokens(call) if call.service == "spicedb" else _of_model(call))}
+        if is_unnamed and any(one.reply for one in answers):
+            raise Bad(causes.CONTENT_ODD)
+        said = {"saves": save, "shows": call.version, **(_of_tokens(call) if call.service == "spicedb" else _of_model(call))}
     except Bad as fault:
         if not answers:
             yield _unread(call, {**lost, "reason": str(fault)})
@@ -112,7 +120,7 @@ def _values(call: Call) -> Iterator[Value]:
 
 def _of_model(call: Call) -> dict[str, Any]:
     """What OpenFGA was asked to look at."""
-    return {"newest": call.save is not None or asks_for_newest(call.asked), "model": get(call.asked, "authorization_model_id") or None}
+    return {"newest": call.is_content or asks_for_newest(call.asked), "model": get(call.asked, "authorization_model_id") or None}
 
 
 def _of_tokens(call: Call) -> dict[str, Any]:
@@ -120,7 +128,7 @@ def _of_tokens(call: Call) -> dict[str, Any]:
     found = revision_at(call.answered)
     if found.number is None:
         raise Bad("a snapshot of PostgreSQL, which only ne import spicedb can place")
-    token = call.token if call.save is not None else demanded_by(call.asked)
+    token = call.token if call.is_content else demanded_by(call.asked)
     if token is not None and revision_in({"token": token}, "the request's consistency").number is None:
         raise Bad("a token of PostgreSQL, which only ne import spicedb can place")
     return {"newest": get(get(call.asked, "consistency"), "fullyConsistent") is True, "snapshot": found.shown, "token": token}
@@ -154,11 +162,13 @@ def _passed(row: Row, value: Value, log: type[Log]) -> Optional[str]:
         raise _fault(row, str(fault)) from None
 
 
-def _named(row: Row, value: Value) -> tuple[Optional[str], Optional[str], Optional[str]]:
-    """What is added to a printed line: the version that is saved, the one that is shown, and the token that is stored with the first."""
+def _named(row: Row, value: Value) -> tuple[Optional[str], Optional[str], Optional[str], bool]:
+    """What is added to a printed line: the version that is saved, the one that is shown, the token that is stored
+    with the first, and whether it is of a content check."""
     try:
         content, version = content_of(value), text_or_none(value.get("version"), "version")
-        return text_or_none(get(content, "version"), "version"), version, text_or_none(get(content, "token"), "token")
+        token = text_or_none(get(content, "token"), "token")
+        return text_or_none(get(content, "version"), "version"), version, token, content is not None
     except Bad as fault:
         raise _fault(row, str(fault)) from None
 
@@ -204,10 +214,10 @@ class Payloads:
         passed = _passed(row, value, SpiceDbLog)
         if passed is not None:
             return passed
-        save, version, token = _named(row, value)
+        save, version, token, is_content = _named(row, value)
         why = causes.UNREADABLE if asked is None else None
         began, ended = at if asked is None else self.began[asked[1]], at + (CUT if "." in row.value["time"] else SECOND)
-        return Call("", value.get("request"), value.get("response"), began, ended, save, version, why, "spicedb", token)
+        return Call("", value.get("request"), value.get("response"), began, ended, save, version, why, "spicedb", token, is_content)
 
     def left(self) -> Counter[str]:
         """The requests that no line answers."""
@@ -233,13 +243,13 @@ def _logged(row: Row, took: int) -> Any:
     ended = nanoseconds(value.get("time"))
     if ended is None:
         raise _fault(row, "the line has no `timestamp`, as seconds since 1970 or as a time of RFC 3339")
-    save, version, token = _named(row, value)
+    save, version, token, is_content = _named(row, value)
     asked = value.get("request")
     why = causes.UNREADABLE if asked is None else TOKEN if token is not None else None
     store = get(asked, "store_id") or given.get("store_id")
     if not isinstance(store, str):
         raise _fault(row, "the line does not say of which store it is (`store_id`)")
-    return Call(store, asked, value.get("response"), ended - took, ended + CUT, save, version, why)
+    return Call(store, asked, value.get("response"), ended - took, ended + CUT, save, version, why, is_content=is_content)
 
 
 # Envoy's taps
@@ -277,7 +287,7 @@ def _tapped(row: Row) -> Any:
             refuse_unknown(path, bodies[0])
     except Bad as fault:
         why = why or str(fault)
-    return Call(store, bodies[0], bodies[1], began, ended, save, version, why)
+    return Call(store, bodies[0], bodies[1], began, ended, save, version, why, is_content=save is not None)
 
 
 def _headers(row: Row, message: object) -> dict[str, list[str]]:

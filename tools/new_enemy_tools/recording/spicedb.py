@@ -91,7 +91,7 @@ class Unsure(NamedTuple):
 
 
 class Base(NamedTuple):
-    """What the feed begins with; no relationships where it goes on from an earlier log."""
+    """What the feed begins with; no relationships where it goes on from an earlier log. `head` is what the service had by `received`."""
 
     left: Optional[Left]
     revision: Revision
@@ -99,6 +99,8 @@ class Base(NamedTuple):
     stored: Stored
     rules: Optional[ServiceRules]
     refusals: Refusals
+    head: Revision
+    received: int
 
 
 def revision_of(token: object) -> Revision:
@@ -125,6 +127,12 @@ def _is_past(revision: Revision, read: Revision) -> bool:
         return (revision.number or 0) >= (read.number or 0)
     own = revision.snapshot.own
     return own >= read.snapshot.xmax if own is not None else revision.snapshot.contains(read.snapshot)
+
+
+def _response(message: Ended) -> Any:
+    """An answer; of a stream the parts that are no fault."""
+    response = response_of(message)
+    return [one for one in response if get(one, "error") is None] if message.call == "stream" else response
 
 
 def read_rules(text: str) -> tuple[Optional[ServiceRules], Refusals]:
@@ -181,6 +189,7 @@ class Feed:
         rules, refusals = read_rules(text)
         refuse_unread(rules, refusals)
         assert rules is not None
+        head, received = revision_of(token), time.monotonic_ns()
         if left is not None:
             token = left.place.cursor or token
         revision = revision_of(token)
@@ -191,14 +200,16 @@ class Feed:
             self.number = left.revision
             # The stream may begin with that.
             self.recent.append(revision.snapshot and revision.snapshot.own)
-            return Base(left, revision, token, Stored(), rules, refusals)
+            return Base(left, revision, token, Stored(), rules, refusals, head, received)
         stored = Stored()
         for of in rules.event.namespaces:
             for given in self.source.relationships(of, token) if rules.event.namespaces[of] else ():
                 if not stored.put(relationship_of(given), _traits(given)):
                     raise Bad("a relationship with a line's end in it: %r" % (given,))
         self.token, self.number = token, revision.number or 0
-        return Base(None, revision, token, stored, rules, refusals)
+        # What came while these were read is known too.
+        head, received = revision_of(self.source.schema()[1]), time.monotonic_ns()
+        return Base(None, revision, token, stored, rules, refusals, head, received)
 
     def _watched(self) -> Iterator[tuple[Watched, Revision]]:
         """The responses, each with the revision at which its rules were read."""
@@ -277,6 +288,7 @@ class SpiceDb:
         self.unsure: list[Unsure] = []
         self.placed_at = 0
         self.doubts: Doubts = ()
+        self.learnt = 0.0
         # on PostgreSQL
         self.transactions: Optional[Transactions] = None
         self.pending: list[Waiting] = []
@@ -322,6 +334,8 @@ class SpiceDb:
         self.history = Known(revision)
         core.sequencer.reached = revision
         core.begin_log(Begun(lines, not base.stored.tuples, self._first_place(base, revision, rules.hash)))
+        # What answers had shown that no log has, the service has too.
+        self._hear(base.received, base.head)
         early, self.early = self.early, Writes()
         for message in early.kept:
             core.tried(message, partial(self._take_written, message))
@@ -426,20 +440,33 @@ class SpiceDb:
             else:
                 self.early.keep(message)
             return
-        request, response = request_of(message), response_of(message)
+        request, response = request_of(message), _response(message)
         MESSAGES.refuse_unknown("Consistency", get(request, "consistency"))
-        if message.call == "stream":
-            response = [one for one in response if get(one, "error") is None]
         self.decided(message, request, response, asked, core)
+
+    def overhear(self, message: Ended) -> None:
+        """Its answer shows all the same what has come."""
+        try:
+            response = _response(message)
+            if response:
+                self._hear(message.clock, revision_at(response))
+        except Bad:
+            # It is lost, whatever it says.
+            return
 
     def _take_written(self, message: Ended) -> None:
         """What a write made is known when it has its answer."""
         response = response_of(message)
-        revision = revision_of(get(get(response, "writtenAt") or get(response, "deletedAt"), "token"))
-        if revision.number is not None:
-            self.history.add(message.clock, revision.number)
-        elif revision.snapshot is not None:
-            self._learn(Answered(message.clock, revision.snapshot))
+        self._hear(message.clock, revision_of(get(get(response, "writtenAt") or get(response, "deletedAt"), "token")))
+
+    def _hear(self, clock: int, revision: Revision) -> None:
+        """An answer shows what has come by then; raises Bad."""
+        if (revision.snapshot is None) != (self.transactions is None):
+            raise Bad("a token is of another datastore than those of the changes")
+        if revision.snapshot is not None:
+            self._learn(Answered(clock, revision.snapshot))
+        else:
+            self.history.add(clock, revision.number or 0)
 
     def unshown(self) -> list[Unshown]:
         """Replies name their snapshots, so that none is judged without what it saw."""
@@ -456,18 +483,15 @@ class SpiceDb:
             return
         revision = revision_at(response)
         message = message.without_bodies()
-        if (revision.number is None) != (self.transactions is not None):
-            raise Bad("a token is of another datastore than those of the changes")
+        self._hear(message.clock, revision)
         if revision.snapshot is not None:
             token = demanded_by(request) if message.save is None else message.token
             demanded = None if token is None else revision_of(token).snapshot
-            self._learn(Answered(message.clock, revision.snapshot))
             if self.weight > WAITING:
                 raise Bad(FULL)
             kept = {"consistency": get(request, "consistency")}
             self._wait(Waiting(message, kept, answers, asked.clock, revision.snapshot, demanded), core)
             return
-        self.history.add(message.clock, revision.number or 0)
         # What had come by then may have been told a little later than the beginning.
         self._place(message, request, answers, self.history.at(asked.clock), revision.number or 0, core)
 
