@@ -44,6 +44,8 @@ class Telling(NamedTuple):
     held_over: int = 0
     held_back: int = 0
     unjudged: frozenset[int] = frozenset()
+    # how many replies were not compared with the report, which does not name its trace
+    uncompared: int = 0
 
     @property
     def service(self) -> Optional[str]:
@@ -68,6 +70,9 @@ class Telling(NamedTuple):
             covered.append("held over %d: the replies of these checks are judged with the day whose writes come to their snapshots" % self.held_over)
         if self.held_back:
             covered.append("held back %d: these checks are audited when all logs have come as far" % self.held_back)
+        if self.uncompared:
+            covered.append("the report does not name its trace, and of %d of the %d replies it was not looked whether this trace gives what it says" % (
+                self.uncompared, len(self.trace.entries)))
         return covered + ([] if self.labels.note is None else [self.labels.note])
 
     @property

@@ -16,6 +16,7 @@ from typing import Callable, Iterable, Iterator, NamedTuple, Optional
 from new_enemy_tools.audit_summary import LeftOut, Telling, telling_of, told_of, warnings_of
 from new_enemy_tools.audited_trace import read_audited
 from new_enemy_tools.baseline import read_baseline
+from new_enemy_tools.binding import uncompared
 from new_enemy_tools.commands.running import Parser, add_allowing
 from new_enemy_tools.coverage import coverage_in
 from new_enemy_tools.effects import EFFECTS
@@ -117,7 +118,8 @@ class Teller:
                 self.report = report_text(given.report)
             report = read_report(self.report)
             told = told_of(trace, report, step)
-            telling = telling_of(told, trace, Names(ids), given.trace, report, labels_in(self.data), coverage_in(self.data), out)
+            telling = telling_of(told, trace, Names(ids), given.trace, report, labels_in(self.data), coverage_in(self.data), out)._replace(
+                uncompared=uncompared(trace, report))
         return Rendered(telling, warnings_of(telling, out), [] if given.form == "html" else list(form_of(given.form)(telling)))
 
 
