@@ -9,6 +9,7 @@ from typing import Callable, Iterator, NamedTuple, Optional
 
 from new_enemy_tools.audit_summary import Telling
 from new_enemy_tools.effects import EFFECTS, MEANT, RatedFinding
+from new_enemy_tools.faults import naming
 from new_enemy_tools.finding_stories import Event, Story, Teller
 from new_enemy_tools.findings import FORMS
 from new_enemy_tools.groups import Group, listed
@@ -284,7 +285,7 @@ def write_pages(telling: Telling, path: str, step: Callable[[int], None]) -> Non
     places = [(page, path_of(path, page.number)) for page in writer.pages]
     try:
         for page, place in places:
-            with open(place + ".part", "w", encoding="utf-8", newline="\n") as file:
+            with naming(place), open(place + ".part", "w", encoding="utf-8", newline="\n") as file:
                 for line in writer.lines(page):
                     file.write(line + "\n")
             done += len(page.findings)

@@ -10,7 +10,7 @@ from contextlib import suppress
 from types import TracebackType
 from typing import TYPE_CHECKING, BinaryIO, Callable, NamedTuple, Optional
 
-from new_enemy_tools.faults import PartsFault, ToolFault
+from new_enemy_tools.faults import PartsFault, ToolFault, naming
 from new_enemy_tools.parting.manifest import MOST_PARTS
 
 if TYPE_CHECKING:
@@ -170,12 +170,14 @@ class PiecesWriter:
         self._append(data)
 
     def _append(self, data: bytes) -> None:
-        self._file.write(data)
+        with naming(self.path):
+            self._file.write(data)
         self._written += len(data)
         self.size += len(data)
 
     def _close(self) -> None:
-        self._file.close()
+        with naming(self.path):
+            self._file.close()
         self.pieces.append(Piece(piece_path(self.path, len(self.pieces) + 1), self._written, ""))
 
     def _next(self) -> None:
@@ -195,7 +197,7 @@ class PiecesWriter:
             for number, piece in enumerate(self.pieces, 1):
                 os.replace(self._beside(number), piece.path)
                 self._named.append(piece.path)
-            with open(self.path + ".part", "w", encoding="utf-8") as file:
+            with naming(self.path), open(self.path + ".part", "w", encoding="utf-8") as file:
                 listed = [{"bytes": piece.bytes, "digest": piece.digest} for piece in self.pieces]
                 file.write(START.decode() + json.dumps({"format": FORMAT, "pieces": listed}, separators=(",", ":"))[1:] + "\n")
         before()

@@ -6,6 +6,7 @@ from functools import partial
 from hashlib import blake2b
 from typing import Callable, Iterator, Optional
 
+from new_enemy_tools.faults import naming
 from new_enemy_tools.parting.blocks import Blocks, Source
 from new_enemy_tools.parting.manifest import Manifest, evidence_path, trace_path
 from new_enemy_tools.parting.placing import EVERYWHERE, Objects
@@ -49,10 +50,13 @@ class Cut:
             digest = blake2b(digest_size=16)
             for done in shared(spread, self._noted(blocks, digest), self.jobs):
                 for file, pieces in zip(files, done.pieces):
-                    file.write(b"".join(pieces))
+                    with naming(file.name):
+                        file.write(b"".join(pieces))
                 self.table.extend(done.table)
             for file in files:
-                file.write(blocks.too_long)
+                with naming(file.name):
+                    file.write(blocks.too_long)
+                    file.flush()
             digest.update(blocks.too_long)
             self.name.update(digest.digest())
             sizes = [file.tell() for file in files]

@@ -3,7 +3,7 @@ import json
 import os
 from typing import NamedTuple, Optional
 
-from new_enemy_tools.faults import PartsFault
+from new_enemy_tools.faults import PartsFault, naming
 
 FORMAT = 1
 MOST_PARTS = 999
@@ -39,7 +39,7 @@ class Manifest(NamedTuple):
     def write(self, folder: str) -> None:
         """Writes it whole or not at all."""
         path = os.path.join(folder, NAME)
-        with open(path + ".new", "w", encoding="utf-8") as file:
+        with naming(path), open(path + ".new", "w", encoding="utf-8") as file:
             file.write(json.dumps({"format": FORMAT, **self._asdict()}) + "\n")
         os.replace(path + ".new", path)
 

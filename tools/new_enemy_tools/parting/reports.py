@@ -4,7 +4,7 @@ import re
 import shutil
 from typing import IO, NamedTuple
 
-from new_enemy_tools.faults import PartsFault
+from new_enemy_tools.faults import PartsFault, naming
 from new_enemy_tools.findings import ReportFault
 from new_enemy_tools.parting.manifest import Manifest
 
@@ -36,7 +36,7 @@ def write_report(path: str, manifest: Manifest, part: int, status: int, output: 
         file.seek(0)
     head = "part %d of %d\ncut %s\nentries %d\nstatus %d\noutput %d\nerror %d\n\n" % (
         part, manifest.parts, manifest.cut, manifest.entries[part - 1], status, sizes[0], sizes[1])
-    with open(path + ".new", "wb") as report:
+    with naming(path), open(path + ".new", "wb") as report:
         report.write(head.encode())
         shutil.copyfileobj(output, report)
         shutil.copyfileobj(error, report)

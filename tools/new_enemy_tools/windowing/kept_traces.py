@@ -8,7 +8,7 @@ from typing import NamedTuple, Optional
 
 from new_enemy_tools.compressed_files import ENDS, pack, packed_at, unpacked
 from new_enemy_tools.coverage import Coverage, of_row
-from new_enemy_tools.faults import ToolFault
+from new_enemy_tools.faults import ToolFault, naming
 from new_enemy_tools.findings import Finding, Report, finding_of
 from new_enemy_tools.labels import Labels
 from new_enemy_tools.progress import Progress
@@ -29,7 +29,7 @@ class NotKept(ToolFault):
 def keep_trace(folder: str, found: Audited, own: Own) -> None:
     """Keeps a day's trace in its folder."""
     pack(os.path.join(folder, TRACE), chain((row.raw + b"\n" for row in found.old.rows), own.blocks()))
-    with open(os.path.join(folder, NUMBERS), "w", encoding="utf-8") as file:
+    with naming(os.path.join(folder, NUMBERS)), open(os.path.join(folder, NUMBERS), "w", encoding="utf-8") as file:
         json.dump({"before": found.old.lines, "carried": [row.line for row in found.old.rows]}, file, separators=(",", ":"))
         file.write("\n")
 
