@@ -69,6 +69,12 @@ class OpenFga(Tried):
         self.assertEqual(said[-2:], ["audit: verdict clean", "fits in all that is tried, which --help names"])
         self.assert_clean()
 
+    def test_what_was_never_asked_is_not_looked_at(self) -> None:
+        said = self.told("none", 6, "--turns", "2")
+        self.assertRegex(said, "not looked at: requests that were never made: [a-z, ]*list; give more --turns\n")
+        self.assertTrue(said.endswith("not all was looked at\n"), said)
+        self.assert_clean()
+
     def test_a_wrong_reply_differs(self) -> None:
         said = self.told("wrong", 1)
         self.assertIn("differs: the audit finds F10 wrong reply: ", said)

@@ -12,7 +12,7 @@ from new_enemy_tools.commands import import_logs
 from new_enemy_tools.coverage import coverage_in
 from new_enemy_tools.files import read_bytes
 from new_enemy_tools.findings import read_report
-from new_enemy_tools.fitting.load import Decision, Load
+from new_enemy_tools.fitting.load import CALLS, Decision, Load
 from new_enemy_tools.fitting.services import Tuple
 from new_enemy_tools.meaning import Settled
 from new_enemy_tools.trace import Trace, read_trace
@@ -97,4 +97,6 @@ def compared(load: Load, room: str, program: str) -> Compared:
     sums = ["requests: " + ", ".join("%s %d" % one for one in sorted(load.calls.items())),
             "checks: %d answered, %d in the log" % (sum(load.asked.values()), len(log.of)), "audit: " + audit.stdout.strip().splitlines()[-1]]
     differs = [*failed, *of_log(load, log, bool(coverage.lost)), *_of_audit(read_trace(data), audit.stdout, log)]
-    return Compared(sums, differs, [] if coverage.is_whole else list(coverage.lines()))
+    never = [one for one in CALLS if not load.calls[one]]
+    unasked = ["requests that were never made: %s; give more --turns" % ", ".join(never)] if never else []
+    return Compared(sums, differs, unasked + ([] if coverage.is_whole else list(coverage.lines())))
