@@ -11,15 +11,14 @@ from types import TracebackType
 from typing import TYPE_CHECKING, BinaryIO, Callable, NamedTuple, Optional
 
 from new_enemy_tools.faults import PartsFault, ToolFault, naming
-from new_enemy_tools.parting.manifest import MOST_PARTS
 
 if TYPE_CHECKING:
     from hashlib import blake2b
 
 START = b'{"kind":"pieces",'
 FORMAT = 1
-# An index has at most so many pieces, of less than 100 bytes each.
-MOST = MOST_PARTS
+# A cut has at most so many parts, and an index so many pieces, of less than 100 bytes each.
+MOST_PARTS = 999
 INDEX_BYTES = 1 << 17
 # A line has more than its last braces in so many bytes.
 LEAST_BYTES = 1_000
@@ -77,7 +76,7 @@ def pieces_of(path: str) -> Optional[list[Piece]]:
         data = START + file.read(INDEX_BYTES)
     try:
         value = json.loads(data)
-        if value["format"] != FORMAT or not 1 <= len(value["pieces"]) <= MOST:
+        if value["format"] != FORMAT or not 1 <= len(value["pieces"]) <= MOST_PARTS:
             raise ValueError
         pieces = [Piece(piece_path(path, number), one["bytes"], one["digest"]) for number, one in enumerate(value["pieces"], 1)]
         if not all(type(one.bytes) is int and isinstance(one.digest, str) for one in pieces):
@@ -182,8 +181,8 @@ class PiecesWriter:
 
     def _next(self) -> None:
         self._close()
-        if len(self.pieces) == MOST:
-            raise ToolFault("the trace has more than %d pieces of %d bytes, and a cut has no more parts" % (MOST, self.most))
+        if len(self.pieces) == MOST_PARTS:
+            raise ToolFault("the trace has more than %d pieces of %d bytes, and a cut has no more parts" % (MOST_PARTS, self.most))
         self._file = open(self._beside(len(self.pieces) + 1), "wb")
         self._written = 0
 

@@ -58,12 +58,12 @@ def form_of(name: str) -> Callable[[Telling], Iterator[str]]:
     return FORMS[name]
 
 
-def report_text(path: str) -> str:
-    """What the program wrote, of the whole or of a part."""
+def report_text(path: str, trace: str) -> str:
+    """What the program wrote, of the whole or of a part, of the trace that stands there."""
     data = read_bytes(path)
     if data.startswith(b"part "):
         from new_enemy_tools.parting.reports import text_of
-        return text_of(path, data)
+        return text_of(path, data, trace)
     return data.decode("utf-8", "replace")
 
 
@@ -115,7 +115,7 @@ class Teller:
                 held_over=day.held_over, held_back=day.held_back, unjudged=day.unjudged(trace))
         else:
             if self.report is None:
-                self.report = report_text(given.report)
+                self.report = report_text(given.report, given.trace)
             report = read_report(self.report)
             told = told_of(trace, report, step)
             telling = telling_of(told, trace, Names(ids), given.trace, report, labels_in(self.data), coverage_in(self.data), out)._replace(
