@@ -82,6 +82,7 @@ class Days(DayCase):
             (7, "F10", "wrong", "one", 6), (9, "F10", "wrong", "two", 2), (7, "F4", "changed", "one", 6), (9, "F2", "none", "two", 2)])
         self.assertEqual(rows[1]["named"], "doc:1#reader@user:anne")
         summary = json.loads(self.get("days/day000002/summary.json"))
+        self.assertEqual(sorted(name.partition(".")[0] for name in summary.pop("kept")), ["lines", "report", "trace"])
         self.assertEqual(summary, {
             "logs": ["two"], "digest": summary["digest"], "left": summary["left"], "status": 1, "entries": 3, "findings": 4,
             "not_audited": 0, "held_over": 0, "verdict": "dirty", "coverage": {"checks": 3, "whole": 3},
