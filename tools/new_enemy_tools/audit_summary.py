@@ -44,6 +44,8 @@ class Telling(NamedTuple):
     held_over: int = 0
     held_back: int = 0
     unjudged: frozenset[int] = frozenset()
+    # how many replies were not compared with the report, which does not name its trace
+    uncompared: int = 0
 
     @property
     def service(self) -> Optional[str]:
@@ -61,14 +63,21 @@ class Telling(NamedTuple):
     @property
     def notes(self) -> list[str]:
         """What was not looked at, and what to do about it."""
-        covered = [] if self.coverage.is_plain else list(self.coverage.lines())
+        return self.unaudited() + ([] if self.labels.note is None else [self.labels.note])
+
+    def unaudited(self, number: Callable[[int], str] = str) -> list[str]:
+        """What was not looked at; numbers are written so."""
+        covered = [] if self.coverage.is_plain else list(self.coverage.lines(number))
         if self.coverage.is_empty:
             covered.append("nothing was audited: the trace has no check")
         if self.held_over:
-            covered.append("held over %d: the replies of these checks are judged with the day whose writes come to their snapshots" % self.held_over)
+            covered.append("held over %s: the replies of these checks are judged with the day whose writes come to their snapshots" % number(self.held_over))
         if self.held_back:
-            covered.append("held back %d: these checks are audited when all logs have come as far" % self.held_back)
-        return covered + ([] if self.labels.note is None else [self.labels.note])
+            covered.append("held back %s: these checks are audited when all logs have come as far" % number(self.held_back))
+        if self.uncompared:
+            covered.append("the report does not name its trace, and of %s of the %s replies it was not looked whether this trace gives what it says" % (
+                number(self.uncompared), number(len(self.trace.entries))))
+        return covered
 
     @property
     def verdict(self) -> str:

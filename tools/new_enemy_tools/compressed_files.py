@@ -7,7 +7,7 @@ import zlib
 from contextlib import suppress
 from typing import BinaryIO, Iterable
 
-from new_enemy_tools.faults import DeviceFault, ToolFault
+from new_enemy_tools.faults import DeviceFault, ToolFault, naming
 
 ZSTD, GZIP = ".zst", ".gz"
 ENDS = (ZSTD, GZIP)
@@ -22,7 +22,7 @@ def pack(path: str, pieces: Iterable[bytes]) -> str:
     """Writes a file whose name has an end behind the path; its path."""
     program = shutil.which("zstd")
     place = path + (GZIP if program is None else ZSTD)
-    with open(place, "wb") as file:
+    with naming(place), open(place, "wb") as file:
         if program is None:
             # The time of the day says nothing here, and so the same bytes give the same file.
             with gzip.GzipFile("", "wb", LEVEL, file, 0) as packed:

@@ -7,7 +7,7 @@ that an import writes has the key `coverage`, with what stands in no line of the
 """
 import re
 from collections import Counter
-from typing import Any, Iterator, Mapping, NamedTuple, Optional
+from typing import Any, Callable, Iterator, Mapping, NamedTuple, Optional
 
 from new_enemy_tools import trace_lines
 from new_enemy_tools.importing.causes import not_looked_for
@@ -116,17 +116,17 @@ class Coverage(NamedTuple):
         found.update({name: text_of_time(value) for name, value in (("from", self.since), ("to", self.until)) if value is not None})
         return found
 
-    def lines(self) -> Iterator[str]:
-        """As sentences, one a line: what was audited, and what was not."""
-        yield self.said
+    def lines(self, number: Callable[[int], str] = str) -> Iterator[str]:
+        """As sentences, one a line: what was audited, and what was not; numbers are written so."""
+        yield self.counts(number) + self._when
         for cause, count in sorted(self.in_part.items()):
-            yield "audited in part %d: %s; not looked for: %s" % (count, plain(cause), ", ".join(not_looked_for(cause)))
+            yield "audited in part %s: %s; not looked for: %s" % (number(count), plain(cause), ", ".join(not_looked_for(cause)))
         for words, counts in (("not audited", self.not_audited), ("lost in gaps", self.lost)):
             for cause, count in sorted(counts.items()):
-                yield "%s %d: %s" % (words, count, plain(cause))
+                yield "%s %s: %s" % (words, number(count), plain(cause))
         if self.uncounted:
-            yield "gaps in which nobody counted what was asked: %d%s" % (
-                self.uncounted, ", of unknown length %d" % self.undated if self.undated else "")
+            yield "gaps in which nobody counted what was asked: %s%s" % (
+                number(self.uncounted), ", of unknown length %s" % number(self.undated) if self.undated else "")
         if self.open:
             yield "the log is open: its last file%s is not closed, or full, so more may follow" % ("" if self.last_file is None else ", %d," % self.last_file)
         if self.unknown is not None:
@@ -135,18 +135,20 @@ class Coverage(NamedTuple):
     @property
     def said(self) -> str:
         """The sum in one sentence."""
-        when = "" if self.since is None or self.until is None else ", from %s to %s" % (text_of_time(self.since), text_of_time(self.until))
-        return self.said_counts + when
+        return self.counts() + self._when
 
     @property
-    def said_counts(self) -> str:
+    def _when(self) -> str:
+        return "" if self.since is None or self.until is None else ", from %s to %s" % (text_of_time(self.since), text_of_time(self.until))
+
+    def counts(self, number: Callable[[int], str] = str) -> str:
         """The same without its times."""
-        counts = [("%d in part", self.in_part), ("%d not audited", self.not_audited), ("%d lost in gaps", self.lost)]
-        said = ["%d whole" % self.whole] + [words % _count(counted) for words, counted in counts if counted]
+        counts = [("in part", self.in_part), ("not audited", self.not_audited), ("lost in gaps", self.lost)]
+        said = ["%s whole" % number(self.whole)] + ["%s %s" % (number(_count(counted)), words) for words, counted in counts if counted]
         if self.uncounted:
-            said.append("and what was asked in %s" % ("1 gap" if self.uncounted == 1 else "%d gaps" % self.uncounted))
+            said.append("and what was asked in %s gap%s" % (number(self.uncounted), "" if self.uncounted == 1 else "s"))
         if self.elsewhere:
-            said.append("%d of other stores, which are not recorded" % self.elsewhere)
+            said.append("%s of other stores, which are not recorded" % number(self.elsewhere))
         return "checks: " + ", ".join(said)
 
     @property

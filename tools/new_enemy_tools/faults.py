@@ -1,5 +1,6 @@
 """What the libraries raise and no caller has to expect: a command says it, and ends."""
-from typing import Sequence
+from contextlib import contextmanager
+from typing import BinaryIO, Iterator, Sequence
 
 
 class ToolFault(Exception):
@@ -25,3 +26,21 @@ class MonitorFault(ToolFault):
 
 class PartsFault(Exception):
     """Why there are no parts, or no answer of all of them."""
+
+
+@contextmanager
+def naming(path: str) -> Iterator[None]:
+    """Gives a fault of writing the name of the file, which Python gives to one of opening alone."""
+    try:
+        yield
+    except OSError as fault:
+        fault.filename = fault.filename or path
+        raise
+
+
+def write_all(file: BinaryIO, data: bytes) -> None:
+    """Writes to a file without a buffer, which may take a part at a time where the disk is nearly full."""
+    with naming(file.name):
+        rest = memoryview(data)
+        while rest:
+            rest = rest[file.write(rest):]

@@ -3,7 +3,7 @@ import os
 import sys
 from typing import Iterable, Optional
 
-from new_enemy_tools.faults import DeviceFault
+from new_enemy_tools.faults import DeviceFault, naming
 from new_enemy_tools.ids import Ids
 from new_enemy_tools.progress import Progress
 from new_enemy_tools.trace import Trace, read_trace
@@ -32,7 +32,7 @@ def read_joined(path: str) -> bytes:
 def write_whole(path: str, lines: Iterable[str]) -> None:
     """Writes a file, or leaves the one that is there as it is."""
     try:
-        with open(path + ".part", "w", encoding="utf-8", newline="\n") as file:
+        with naming(path), open(path + ".part", "w", encoding="utf-8", newline="\n") as file:
             for line in lines:
                 file.write(line + "\n")
         os.replace(path + ".part", path)

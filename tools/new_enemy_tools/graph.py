@@ -86,11 +86,13 @@ class Drawing:
     def _reply(self) -> Iterator[str]:
         """What the service said, beside what the rules say at the drawing's timestamp."""
         is_right = self.settled.holds() == self.entry.reply
+        # At another timestamp than the snapshot the reply is not called wrong.
+        said = "right" if is_right else "wrong" if self.at == self.entry.snapshot else "another answer at %d" % self.at
         color = "" if is_right else ", color=red, penwidth=2"
         yield "  reply [shape=note, style=filled, fillcolor=%s, label=%s%s];" % (
             YES if self.entry.reply else NO,
             _lines("the service said %s" % _word(self.entry.reply), "the rules say %s" % _word(self.settled.holds())), color)
-        yield "  reply -> %s [label=%s%s];" % (_quoted(str(self.entry.goal.set)), _quoted("right" if is_right else "wrong"), color)
+        yield "  reply -> %s [label=%s%s];" % (_quoted(str(self.entry.goal.set)), _quoted(said), color)
 
     def _label(self, of: Userset) -> str:
         is_stored = self.trace.store.has(Tuple(of, self.settled.user), self.at)

@@ -13,7 +13,7 @@ from functools import lru_cache
 from typing import Any, BinaryIO, Iterator, Optional, Sequence, Union
 
 from new_enemy_tools import limits, texts
-from new_enemy_tools.faults import ToolFault
+from new_enemy_tools.faults import ToolFault, naming
 from new_enemy_tools.keys import unread
 
 KEYS = frozenset(("kind", "type", "id", "number"))
@@ -262,7 +262,7 @@ class Ids:
     def append(self) -> None:
         """Writes the new rows behind those of the file."""
         if self.path and len(self.rows) > self.saved:
-            with open(self.path, "ab") as file:
+            with naming(self.path), open(self.path, "ab") as file:
                 for at in range(self.saved, len(self.rows), AT_ONCE):
                     rows = [(*row, number) for number, row in enumerate(self.rows[at:at + AT_ONCE], at + 1)]
                     said = {} if at or self.service is None else {SERVICE: self.service}

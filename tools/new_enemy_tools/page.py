@@ -9,6 +9,7 @@ from typing import Callable, Iterator, NamedTuple, Optional
 
 from new_enemy_tools.audit_summary import Telling
 from new_enemy_tools.effects import EFFECTS, MEANT, RatedFinding
+from new_enemy_tools.faults import naming
 from new_enemy_tools.finding_stories import Event, Story, Teller
 from new_enemy_tools.findings import FORMS
 from new_enemy_tools.groups import Group, listed
@@ -17,7 +18,7 @@ from new_enemy_tools.labels import Labels
 from new_enemy_tools.meaning import Outgrown
 from new_enemy_tools.picture import drawn
 from new_enemy_tools.report_forms import place_of
-from new_enemy_tools.shown import markup
+from new_enemy_tools.shown import grouped, markup
 
 PAGE = 1_000
 VERDICTS = {"clean": "clean", "dirty": "dirty", "incomplete": "incomplete: nothing was found, and not everything was looked at",
@@ -63,7 +64,7 @@ def color_of(verdict: str, labels: Optional[Labels], elsewhere: int) -> str:
 
 
 def _counted(count: int, one: str, many: str) -> str:
-    return "%s %s" % (format(count, ","), one if count == 1 else many)
+    return "%s %s" % (grouped(count), one if count == 1 else many)
 
 
 def _hash(text: str) -> str:
@@ -119,8 +120,8 @@ class Writer:
             color_of(verdict, self.telling.labels, coverage.elsewhere), VERDICTS[verdict], _counted(coverage.checks, "check", "checks"),
             markup(self.telling.path), _counted(len(report.findings), "finding", "findings"))
         yield from self._about()
-        yield '<p id="coverage">%s.</p>' % markup(coverage.said_counts[0].upper() + coverage.said_counts[1:])
-        missing = [one for one in self.telling.notes if one not in (self.telling.labels.note, coverage.said)]
+        yield '<p id="coverage">%s.</p>' % markup(coverage.counts(grouped).capitalize())
+        missing = self.telling.unaudited(grouped)[0 if coverage.is_plain else 1:]
         if missing:
             yield '<ul id="unaudited">%s</ul>' % "".join("<li>%s</li>" % markup(one) for one in missing)
         yield '<p id="said">%s.</p>' % markup(self.telling.said)
@@ -129,20 +130,20 @@ class Writer:
         yield '<ul class="sums">'
         found, asked, has_stale = sums.distinct, sums.requests, sums.has_stale_count(self.telling.labels)
         if sums.new_enemies:
-            yield '<li><strong class="wrong">%s</strong> let a new enemy in</li>' % format(sums.new_enemies, ",")
+            yield '<li><strong class="wrong">%s</strong> let a new enemy in</li>' % grouped(sums.new_enemies)
         for count, requests, mark, words in (
                 (found.wrong, asked.wrong, "wrong", "reply wrong" if found.wrong == 1 else "replies wrong"),
                 (found.let_in if has_stale else None, asked.let_in, "changed", "stale, let someone in"),
                 (found.kept_out if has_stale else None, asked.kept_out, "changed", "stale, kept someone out"),
                 (found.undecided, asked.undecided, "undecided", "undecided"), (found.harmless, asked.harmless, "none", "harmless")):
             yield '<li><strong%s>%s</strong> %s%s</li>' % (
-                ' class="%s"' % mark if count else "", "not looked for:" if count is None else format(count, ","), words,
+                ' class="%s"' % mark if count else "", "not looked for:" if count is None else grouped(count), words,
                 "" if count is None or count == requests else ' <span class="soft">in %s</span>' % _counted(requests, "request", "requests"))
         yield "</ul>"
         if len(self.pages) > 1:
             yield '<p class="soft">Page %d of %d: findings %s to %s of %s, the worst first.</p>' % (
-                page.number, len(self.pages), format((page.number - 1) * PAGE + 1, ","),
-                format((page.number - 1) * PAGE + len(page.findings), ","), format(len(self.telling.told), ","))
+                page.number, len(self.pages), grouped((page.number - 1) * PAGE + 1),
+                grouped((page.number - 1) * PAGE + len(page.findings)), grouped(len(self.telling.told)))
         yield "</header>"
 
     def _about(self) -> Iterator[str]:
@@ -284,7 +285,7 @@ def write_pages(telling: Telling, path: str, step: Callable[[int], None]) -> Non
     places = [(page, path_of(path, page.number)) for page in writer.pages]
     try:
         for page, place in places:
-            with open(place + ".part", "w", encoding="utf-8", newline="\n") as file:
+            with naming(place), open(place + ".part", "w", encoding="utf-8", newline="\n") as file:
                 for line in writer.lines(page):
                     file.write(line + "\n")
             done += len(page.findings)

@@ -68,7 +68,7 @@ def sums_row(telling: Telling) -> Row:
                               "text": telling.said}, "groups": len(telling.groups), "service": telling.service, "entries": report.entries,
                      "findings": len(report.findings), "told": len(telling.told), "ignored": len(telling.ignored),
                      "known": len(telling.known), "verdict": report.verdict, "named": telling.names.ids is not None,
-                     "held_over": telling.held_over or None, "held_back": telling.held_back or None,
+                     "held_over": telling.held_over or None, "held_back": telling.held_back or None, "uncompared": telling.uncompared or None,
                      **telling.labels._asdict(), "note": telling.labels.note, "coverage": {"state": telling.coverage.state, **telling.coverage.row()}})
 
 

@@ -29,6 +29,11 @@ def tell_all(text: str, stream: TextIO) -> None:
         tell(line, stream)
 
 
+def grouped(count: int) -> str:
+    """A number as pages write it."""
+    return format(count, ",")
+
+
 def markup(text: str) -> str:
     """The same within a page, also as the value of an attribute."""
     return escape(plain(text))

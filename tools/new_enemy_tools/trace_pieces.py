@@ -10,16 +10,15 @@ from contextlib import suppress
 from types import TracebackType
 from typing import TYPE_CHECKING, BinaryIO, Callable, NamedTuple, Optional
 
-from new_enemy_tools.faults import PartsFault, ToolFault
-from new_enemy_tools.parting.manifest import MOST_PARTS
+from new_enemy_tools.faults import PartsFault, ToolFault, naming
 
 if TYPE_CHECKING:
     from hashlib import blake2b
 
 START = b'{"kind":"pieces",'
 FORMAT = 1
-# An index has at most so many pieces, of less than 100 bytes each.
-MOST = MOST_PARTS
+# A cut has at most so many parts, and an index so many pieces, of less than 100 bytes each.
+MOST_PARTS = 999
 INDEX_BYTES = 1 << 17
 # A line has more than its last braces in so many bytes.
 LEAST_BYTES = 1_000
@@ -77,7 +76,7 @@ def pieces_of(path: str) -> Optional[list[Piece]]:
         data = START + file.read(INDEX_BYTES)
     try:
         value = json.loads(data)
-        if value["format"] != FORMAT or not 1 <= len(value["pieces"]) <= MOST:
+        if value["format"] != FORMAT or not 1 <= len(value["pieces"]) <= MOST_PARTS:
             raise ValueError
         pieces = [Piece(piece_path(path, number), one["bytes"], one["digest"]) for number, one in enumerate(value["pieces"], 1)]
         if not all(type(one.bytes) is int and isinstance(one.digest, str) for one in pieces):
@@ -170,18 +169,20 @@ class PiecesWriter:
         self._append(data)
 
     def _append(self, data: bytes) -> None:
-        self._file.write(data)
+        with naming(self.path):
+            self._file.write(data)
         self._written += len(data)
         self.size += len(data)
 
     def _close(self) -> None:
-        self._file.close()
+        with naming(self.path):
+            self._file.close()
         self.pieces.append(Piece(piece_path(self.path, len(self.pieces) + 1), self._written, ""))
 
     def _next(self) -> None:
         self._close()
-        if len(self.pieces) == MOST:
-            raise ToolFault("the trace has more than %d pieces of %d bytes, and a cut has no more parts" % (MOST, self.most))
+        if len(self.pieces) == MOST_PARTS:
+            raise ToolFault("the trace has more than %d pieces of %d bytes, and a cut has no more parts" % (MOST_PARTS, self.most))
         self._file = open(self._beside(len(self.pieces) + 1), "wb")
         self._written = 0
 
@@ -195,7 +196,7 @@ class PiecesWriter:
             for number, piece in enumerate(self.pieces, 1):
                 os.replace(self._beside(number), piece.path)
                 self._named.append(piece.path)
-            with open(self.path + ".part", "w", encoding="utf-8") as file:
+            with naming(self.path), open(self.path + ".part", "w", encoding="utf-8") as file:
                 listed = [{"bytes": piece.bytes, "digest": piece.digest} for piece in self.pieces]
                 file.write(START.decode() + json.dumps({"format": FORMAT, "pieces": listed}, separators=(",", ":"))[1:] + "\n")
         before()

@@ -8,7 +8,7 @@ from unittest import mock
 from new_enemy_tools.audit_summary import told_of
 from new_enemy_tools.audited_trace import read_audited
 from new_enemy_tools.commands import report as command
-from new_enemy_tools.effects import RatedFinding
+from new_enemy_tools.effects import Effects, RatedFinding
 from new_enemy_tools.findings import read_report
 from new_enemy_tools.token_order import order_lines
 from new_enemy_tools.trace import Trace, read_trace
@@ -39,7 +39,8 @@ def imported(values: list[dict]) -> bytes:
 
 
 def reported(trace: Trace) -> str:
-    lines = order_lines(trace)
+    effects = Effects(trace)
+    lines = order_lines(trace) + ["line %d: F10 wrong reply" % one.line for one in trace.entries.values() if effects.holds(one.goal, one.snapshot) != one.reply]
     return "".join(line + "\n" for line in lines) + "entries %d\nfindings %d\nverdict %s\n" % (
         len(trace.entries), len(lines), "dirty" if lines else "clean")
 
@@ -63,7 +64,7 @@ class Audited(Case):
             for patched in ({"FEW": 1}, {"SHORT": 0}, {"SEARCHES": 0, "NEAR": 100}, {"SEARCHES": 1, "NEAR": 0}):
                 with mock.patch.multiple("new_enemy_tools.quick_reach", **patched), mock.patch("new_enemy_tools.effects.Effects.FEW", 2):
                     self.assertEqual(told, self.told(read_audited(data), report), patched)
-        self.assertEqual(set(seen), {"none", "possible", "changed"})
+        self.assertEqual(set(seen), {"none", "possible", "changed", "wrong"})
 
     def test_all_that_a_trace_says(self) -> None:
         for values in self.inputs():

@@ -2,6 +2,7 @@
 import io
 import os
 import re
+import shutil
 import signal
 from random import Random
 from unittest import mock
@@ -202,6 +203,17 @@ class Refusals(PartsCase):
         self.assertRegex(run.stderr, "part2.trace has [0-9]+ bytes, and the cut wrote [0-9]+")
         os.remove(os.path.join(self.folder, "manifest.json"))
         self.assertIn("the folder has no whole cut", parts("run", os.environ["NEW_ENEMY"], self.folder).stderr)
+
+    def test_a_part_that_stands_for_another(self):
+        """Parts of entries that are alike have as many bytes, and what stands in one of them would not be audited."""
+        names = [b"%02d" % one for one in range(20)]
+        self.put("alike", b"\n".join([RULES, *[CHECK % name for name in names]]) + b"\n")
+        folder = self.path("parts of what is alike")
+        self.assertEqual(parts("cut", 2, self.path("alike"), folder).returncode, 0)
+        shutil.copy(os.path.join(folder, "part1.trace"), os.path.join(folder, "part2.trace"))
+        run = parts("run", os.environ["NEW_ENEMY"], folder, "--make")
+        self.assertEqual((run.returncode, run.stdout), (2, ""))
+        self.assertIn("part2.trace has other lines than the cut wrote, as those of another part; cut again", run.stderr)
 
     def test_usage(self):
         trace = self.path("cut.joined")

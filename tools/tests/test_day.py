@@ -82,6 +82,7 @@ class Days(DayCase):
             (7, "F10", "wrong", "one", 6), (9, "F10", "wrong", "two", 2), (7, "F4", "changed", "one", 6), (9, "F2", "none", "two", 2)])
         self.assertEqual(rows[1]["named"], "doc:1#reader@user:anne")
         summary = json.loads(self.get("days/day000002/summary.json"))
+        self.assertEqual(sorted(name.partition(".")[0] for name in summary.pop("kept")), ["lines", "report", "trace"])
         self.assertEqual(summary, {
             "logs": ["two"], "digest": summary["digest"], "left": summary["left"], "status": 1, "entries": 3, "findings": 4,
             "not_audited": 0, "held_over": 0, "verdict": "dirty", "coverage": {"checks": 3, "whole": 3},
@@ -237,6 +238,22 @@ class Days(DayCase):
         self.imported("events", "--from-empty", "--trace", "trace", "log")
         run = self.run_tool("day", *WORDS, "days", "trace", "trace")
         self.assertEqual((run.returncode, run.stdout), (0, "entries 2\nheld over 1\nfindings 0\nverdict clean\n"))
+
+
+    def test_a_word_beside_the_log_that_nobody_took(self):
+        """Another recorder passed requests, of which no line of the log tells: no day is green until one does."""
+        os.mkdir(self.path("log"))
+        text, found = chained(1, None, *LOG[:5])
+        self.put("log/1.jsonl", text)
+        self.put("log/beside-1-a", "[3,1000000000,2000000000]")
+        run = self.day("log/1.jsonl")
+        self.assertIn("lost in gaps 3: requests that another recorder passed\n", run.stdout)
+        self.assertEqual((run.returncode, run.stdout.splitlines()[-1]), (6, "verdict incomplete"))
+        self.assertIn("gap beside the log: log/beside-1-a tells that another recorder passed requests that it did not record",
+                      self.get("days/day000001/import.txt"))
+        os.rename(self.path("log/beside-1-a"), self.path("log/beside-2-b"))
+        self.put("log/2.jsonl", chained(2, found, write(4), check(4, False, goal=rel("1", "viewer", "carla")), write(5))[0])
+        self.assertEqual(self.day("log/2.jsonl").returncode, 6)
 
 
 class Refused(DayCase):

@@ -214,6 +214,27 @@ class Folders(DayCase):
         self.assertIn("entries 2\n", run.stdout)
         self.assertIn("gaps", run.stdout)
 
+    def test_a_word_beside_a_log_that_nobody_took(self):
+        """It is told by each day that has something new, and by `ne join`, as by an import."""
+        self.log("left", lines(change(1, "a"), check(1, 3))[1:])
+        self.log("right", lines(change(1, "a"), check(1, 4))[1:])
+        self.put("right/beside-1-a", "[3,1000000000,2000000000]")
+        self.put("left/beside-2-b", "{")
+        told = "gap beside the log: %s tells that another recorder passed requests that it did not record; the next one in that folder writes down"
+        run = self.day("days", "events", "left", "right", status=6)
+        self.assertIn("lost in gaps 3: requests that another recorder passed: right/beside-1-a\n", run.stdout)
+        self.assertIn("gaps in which nobody counted what was asked: 1, of unknown length 1\n", run.stdout)
+        self.assertIn(told % "left/beside-2-b", run.stdout)
+        self.assertIn(told % "right/beside-1-a", run.stdout)
+        self.day("days", "events", "left", "right", status=8)
+        run = self.run_tool("join", "--out", "joined", "left", "right")
+        self.assertEqual((run.returncode, [line.partition(" tells")[0] for line in run.stdout.splitlines()[:2]]), (
+            0, ["gap beside the log: left/beside-2-b", "gap beside the log: right/beside-1-a"]))
+        status, said = self.run_import("events", "joined/000001.jsonl")
+        self.assertEqual(status, 6)
+        self.assertIn("gap from 1970-01-01T00:00:01.000000Z to 1970-01-01T00:00:02.000000Z: requests that another recorder passed: "
+                      "right/beside-1-a (3 lost)\n", said)
+
     def test_findings_of_checks_through_both(self):
         """A version that is saved through one and shown through the other, on the next day."""
         gone = change(3, "a", "remove")

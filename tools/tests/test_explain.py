@@ -466,6 +466,14 @@ class Drawings(Case):
         self.assertEqual(lines[4:6], ['  reply -> "doc:1#viewer" [label="right"];', '  "doc:1#viewer" [label="doc:1#viewer\\n(stored)", '
                                       'style=filled, fillcolor=palegreen, penwidth=2];'])
 
+    def test_another_timestamp(self):
+        """A reply is called wrong at its own snapshot alone."""
+        self.put("trace", NAMESPACES + [commit(1, "doc:1#viewer@7"), commit(2, remove=["doc:1#viewer@7"]), entry("check", 1, True, "doc:1#viewer@7")])
+        self.assertIn('[label="another answer at 2", color=red', self.run_tool("draw", "--at", "2", "trace", "5").stdout)
+        for at in ("-1", "18446744073709551616"):
+            run = self.run_tool("draw", "--at", at, "trace", "5")
+            self.assertEqual((run.returncode, run.stdout, run.stderr.splitlines()[-1]), (3, "", "ne draw: --at is no timestamp, from 0 to 2^64 - 1"))
+
     def test_many_usersets(self):
         self.put("trace", NAMESPACES + [commit(1, *("group:g#member@group:%d#member" % one for one in range(700)),
                                                "group:7#member@7"), entry("check", 1, True, "group:g#member@7")])

@@ -180,7 +180,7 @@ class Refused(KeptCase):
                 file.write(made)
             run = self.run_tool("explain", "days/day000002", "9")
             self.assertEqual((run.returncode, run.stdout), (2, ""), made)
-            self.assertIn("is damaged", run.stderr) if made else self.assertTrue(run.stderr)
+            self.assertIn("%s is not as its day kept it" % name, run.stderr)
         os.rename(folder + "lines.json", folder + "kept")
         with open(path, "wb") as file:
             file.write(data)
@@ -195,6 +195,16 @@ class Refused(KeptCase):
 
 
 class TakenAway(KeptCase):
+    def test_a_file_of_another_day(self):
+        self.two_days()
+        packed = next(name for name in self.files(1) if name.startswith("trace."))
+        for name in ("report.txt", packed, "lines.json"):
+            shutil.copytree(self.path("days/day000002"), self.path("mixed"))
+            shutil.copy(self.path("days/day000001/" + name), self.path("mixed/" + name))
+            self.assertEqual(self.run_tool("report", "mixed"), (
+                2, "", "mixed/%s is not as its day kept it: it was altered, or is of another day\n" % name))
+            shutil.rmtree(self.path("mixed"))
+
     def test_so_many_traces_are_kept(self):
         self.two_days("--keep-days", "1")
         self.assertEqual([name for name in self.files(1) if name.startswith(("trace", "lines"))], [])

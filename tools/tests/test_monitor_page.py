@@ -7,8 +7,10 @@ import subprocess
 import unittest
 import urllib.request
 
+from new_enemy_tools.coverage import Coverage
 from new_enemy_tools.labels import Labels
 from new_enemy_tools.monitoring.live_page import SILENT, Live, page_of
+from new_enemy_tools.shown import grouped
 from tests.ports import free_port
 from tests.recorded import READY
 from tests.support import Case
@@ -48,6 +50,14 @@ class Colors(Case):
         for said in ("7 lost in gaps: it was full", "right has no base state so far", "<strong>12.3 s</strong>",
                      "webhook has not got 2 alerts: it answered 503", "checks: 1200 whole"):
             self.assertIn(said, page)
+
+
+    def test_numbers_are_written_one_way(self):
+        coverage = Coverage(29539, {}, {"contextual tuples": 1234}, {"it was full": 5678}, uncounted=1111, undated=1001, elsewhere=2222)
+        page = page_of(GOOD._replace(missing={"lost in gaps: it was full": 5678}, elsewhere=2222, lag=1234.5, told=3333,
+                                     coverage=tuple(coverage.lines(grouped))), SILENT + 1000)
+        self.assertIn("29,539 whole, 1,234 not audited, 5,678 lost in gaps, and what was asked in 1,111 gaps, 2,222 of other stores", page)
+        self.assertEqual(re.findall("[0-9]{4,}(?!-)", page.partition("</style>")[2]), [])
 
 
 class Shown(Hooked):

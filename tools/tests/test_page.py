@@ -121,7 +121,7 @@ class Parts(Pages):
 
     def test_files_beside(self) -> None:
         count = 2 * PAGE + 5
-        values = BOB[:3] + [check(20, 9, True, zookie=zookie_text(10))] + [check(one, 9, False, zookie=zookie_text(10)) for one in range(count - 1)]
+        values = BOB[:3] + [check(20, 9, True, zookie=zookie_text(10))] + [check(100 + one, 9, False, zookie=zookie_text(10)) for one in range(count - 1)]
         values[5]["goal"] = "doc:plan#viewer@999999"
         report = "".join("line %d: F1 stale\n" % (line + 4) for line in range(count)) + "entries %d\nfindings %d\nverdict dirty\n" % (count, count)
         self.put("trace.jsonl", values)

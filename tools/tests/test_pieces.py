@@ -165,6 +165,15 @@ class Audited(PiecesCase):
         self.assertEqual(sorted(one.returncode for one in explained), [0, 2, 2])
         self.assertEqual([one.stdout for one in explained if one.returncode == 0], [self.run_tool("explain", "whole", line).stdout])
 
+    def test_a_report_of_another_part_or_cut(self):
+        self.import_twice()
+        for parts in "23":
+            self.run_tool("parts", "cut", parts, "trace.jsonl", "cut" + parts)
+            self.run_tool("parts", "run", os.environ["NEW_ENEMY"], "cut" + parts, "--make")
+        for path, told in (("cut2/part2.report", "of part 2 of 2, and cut2/part1.trace is none of its"), ("cut3/part1.report", "of another cut than cut2/part1.trace")):
+            run = self.run_tool("report", "cut2/part1.trace", path)
+            self.assertEqual((run.returncode, run.stdout, run.stderr), (2, "", "%s is %s; give the report of that part\n" % (path, told)))
+
     def test_a_part_that_ended_with_a_fault_has_no_report(self):
         self.import_twice()
         self.run_tool("parts", "cut", "2", "trace.jsonl", "cut")
@@ -281,7 +290,7 @@ class Killed(PiecesCase):
                     except KeyboardInterrupt:
                         pass
                 self.assertEqual(self.left(), [], (fault, place))
-        with mock.patch("new_enemy_tools.trace_pieces.MOST", 2):
+        with mock.patch("new_enemy_tools.trace_pieces.MOST_PARTS", 2):
             status, said = self.run_import(*given)
         self.assertEqual((status, said), (2, "the trace has more than 2 pieces of 1000 bytes, and a cut has no more parts\n"))
         self.assertEqual(self.left(), [])

@@ -46,6 +46,31 @@ class OpenFga(Case):
         log[1].update({"build.version": "1.8", "request_id": "x", "user_agent": "y", "store_id": "z", "trace_id": "t", "query_duration_ms": "1"})
         self.assertEqual(self.report(*log), "entries 1\nfindings 0\nverdict clean\n")
 
+    def test_fields_that_are_not_known(self):
+        """What a field means that is not named, as one that is mistyped, is not known: neither a reply nor a tuple is judged without it."""
+        key, odd = {"user": "user:a", "relation": "viewer", "object": "doc:1"}, "not audited: a request with a field that is not known, first at log:2"
+        request = {"store_id": "s", "tuple_key": key}
+        for asked in ({**request, "consistnecy": "HIGHER_CONSISTENCY"}, {**request, "tuple_key": {**key, "zone": "x"}}):
+            self.assertIn(odd, self.imported(*self.words(change("user:a"), self.printed("Check", asked, {"allowed": True}, snapshot=1))))
+            self.forget()
+        batch = {"store_id": "s", "checks": [{"tuple_key": key, "correlation_id": "1", "contextual_tupels": {"tuple_keys": [key]}}]}
+        lines = change("user:a"), self.printed("BatchCheck", batch, {"result": {"1": {"allowed": True}}}, snapshot=1)
+        self.assertIn(odd, self.imported(*self.words(*lines)))
+        self.forget()
+        # A field that is not set says nothing.
+        self.assertEqual(self.report(change("user:a"), self.printed("Check", {**request, "later": ""}, {"allowed": True}, snapshot=1)),
+                         "entries 1\nfindings 0\nverdict clean\n")
+        self.forget()
+        stored = change("user:a")
+        stored["tuple_key"]["until"] = "2024-01-01T00:00:00Z"
+        said = self.imported(*self.words(stored, self.printed("Check", request, {"allowed": True}, snapshot=1)))
+        self.assertIn("left out 1: a tuple with a field that is not known, first at log:1", said)
+        self.assertIn("checks: 0 whole, 1 not audited", said)
+
+    def test_tuple_keys_that_are_no_list(self):
+        log = self.printed("Write", {"store_id": "s", "writes": {"tuple_keys": 2}}, {}, at="2024-05-06T09:00:00Z")
+        self.assertEqual(self.refused(*self.words(log)), ["log:1: `tuple_keys` is no list"])
+
     def test_a_log_of_two_stores_is_refused(self):
         """A check of one is not judged by the tuples of another. Calls that decide and write nothing may be of any."""
         key = {"user": "user:a", "relation": "viewer", "object": "doc:1"}
@@ -231,6 +256,22 @@ class SpiceDb(Case):
         self.assertEqual([line for line in self.said.splitlines() if line.startswith("passed")], [
             "passed over 1: failed request (Unavailable)", "passed over 1: line of the service's own log"])
         self.assertIn("F10 wrong reply", self.report(*log, *self.checked("4", "user:b", 2, 1)))
+
+    def test_fields_that_are_not_known(self):
+        ask, reply = self.checked("1", "user:a", 2, 1)
+        for holder in (ask["grpc.request.content"], ask["grpc.request.content"]["subject"]["object"], ask["grpc.request.content"]["consistency"]):
+            holder["later"] = 1
+            said = self.imported(*self.words(watch(1, update("user:a")), ask, reply))
+            self.assertIn("checks: 0 whole, 1 not audited", said)
+            self.forget()
+            holder["later"] = 0
+        self.assertIn("checks 1, ", self.imported(*self.words(watch(1, update("user:a")), ask, reply)))
+        self.forget()
+        stored = update("user:a")
+        stored["relationship"]["optionalBudget"] = 3
+        said = self.imported(*self.words(watch(1, stored), ask, reply))
+        self.assertIn("left out 1: a tuple with a field that is not known, first at log:1", said)
+        self.assertIn("checks: 0 whole, 1 not audited", said)
 
     def test_what_has_no_other_half_is_told(self):
         first, second = self.checked("1", "user:a", 2, 1), self.checked("2", "user:a", 2, 1)

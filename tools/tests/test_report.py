@@ -4,7 +4,9 @@ import os
 import xml.etree.ElementTree
 from collections import Counter
 from random import Random
+from unittest import mock
 
+from new_enemy_tools import binding
 from new_enemy_tools.labels import labels_in
 from new_enemy_tools.trace_lines import _plainly, counted_in
 from tests.support import EXAMPLES, Case
@@ -129,6 +131,34 @@ class Reports(Case):
             run = self.report(text=text)
             self.assertEqual((run.returncode, run.stdout, run.stderr), (2, "", told + "\n"))
 
+    def test_reports_of_another_trace(self):
+        """A report does not name its trace: what it says, and what it does not say, has to be what this one gives."""
+        found = FOUND.splitlines()[:-3]
+        other = "; it is of another trace, or of this one before it was changed: audit the trace, and give the report of that"
+
+        def refused(lines, told):
+            text = "".join(line + "\n" for line in lines) + "entries 11\nfindings %d\nverdict %s\n" % (len(lines), "dirty" if lines else "clean")
+            run = self.report(text=text)
+            self.assertEqual((run.returncode, run.stdout, run.stderr), (2, "", told + "\n"))
+        for number, line in enumerate(found[:6]):
+            said, _, related = line.partition(": ")[2].partition(",")
+            refused(found[:number] + found[number + 1:], "%s of the trace has `%s%s`, and the report does not say so%s" % (
+                line.partition(":")[0], said, related and "," + related, other))
+        refused(found[:9], "by this trace the reply on line 15 is wrong, and the report says nothing of it" + other)
+        refused(found[:6] + ["line 12: F10 wrong reply"] + found[7:],
+                "by this trace the reply on line 12 is right, and the report says F10 wrong reply" + other)
+        refused(found + found[-1:], "the report has F10 on line 15 twice")
+        refused([], "line 5 of the trace has `F1 stale`, and the report does not say so" + other)
+
+    def test_replies_that_were_not_compared(self):
+        """Of many replies some are compared with the report, and each form tells of how many that was not done."""
+        told = "the report does not name its trace, and of 5 of the 11 replies it was not looked whether this trace gives what it says"
+        with mock.patch.object(binding, "MOST", 4):
+            for form in ("text", "junit", "sarif", "annotations", "html"):
+                self.assertIn(told, self.report("--form", form).stdout)
+            self.assertEqual(json.loads(self.report().stdout.splitlines()[0])["uncompared"], 5)
+        self.assertNotIn("does not name its trace", self.report("--form", "text").stdout)
+
     def test_faults(self):
         self.assertEqual(self.run_tool("report", "none", "-").returncode, 5)
         self.assertEqual(self.run_tool("report", "trace.jsonl").returncode, 3)
@@ -138,6 +168,7 @@ class Reports(Case):
 
 
 RULES = {"kind": "namespace", "name": "doc", "relations": [{"name": "viewer"}, {"name": "editor"}]}
+BEGUN = {"kind": "commit", "at": 0, "add": ["doc:a#editor@1"]}
 SAVED = {"kind": "content", "goal": "doc:a#editor@1", "snapshot": 0, "reply": True, "version": "v", "zookie": "z1-" + 16 * "0"}
 FOUR = "0 replies wrong, 0 stale answers that let someone in, 0 that kept someone out, 0 harmless"
 
@@ -150,10 +181,10 @@ class WhatNobodyLookedFor(Case):
     """A count of no stale answers says of how many checks somebody could look for them."""
 
     def sums(self, *entries, spaces=(",", ":")):
-        self.put("trace.jsonl", "".join(json.dumps(one, separators=spaces) + "\n" for one in (RULES, *entries)))
-        run = self.run_tool("report", "trace.jsonl", "-", stdin="entries %d\nfindings 0\nverdict clean\n" % len(entries))
+        self.put("trace.jsonl", "".join(json.dumps(one, separators=spaces) + "\n" for one in (RULES, BEGUN, *entries)))
+        run = self.run_tool("report", "trace.jsonl", "-", stdin=self.audited())
         self.assertEqual((run.returncode, run.stderr), (0, ""))
-        return json.loads(run.stdout)
+        return json.loads(run.stdout.splitlines()[0])
 
     def test_no_version_and_no_token(self):
         sums = self.sums(SAVED, asked(), asked())
@@ -229,6 +260,6 @@ class WhatNobodyLookedFor(Case):
         self.assertIn('<p id="note">Stale answers to checks were not looked for: no check names', page)
         self.assertIn('<span class="verdict incomplete">clean</span>', page)
         self.sums(asked(version="v"))
-        page = self.run_tool("report", "--form", "html", "trace.jsonl", "-", stdin="line 2: F6 unknown version\nentries 1\nfindings 1\nverdict dirty\n").stdout
+        page = self.run_tool("report", "--form", "html", "trace.jsonl", "-", stdin="line 3: F6 unknown version\nentries 1\nfindings 1\nverdict dirty\n").stdout
         self.assertIn("<li><strong>0</strong> stale, let someone in</li>", page)
         self.assertNotIn('id="note"', page)

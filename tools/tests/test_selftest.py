@@ -11,7 +11,7 @@ from json import loads
 from typing import Any
 from unittest import mock
 
-from new_enemy_tools.fitting.comparing import SHOWN, Log, of_log, wait_for_changes
+from new_enemy_tools.fitting.comparing import SHOWN, Log, never_asked, of_log, wait_for_changes
 from new_enemy_tools.fitting.load import Load
 from new_enemy_tools.fitting.services import OpenFga as Scratch
 
@@ -199,6 +199,13 @@ class OfALog(Case):
     def test_a_check_that_is_missing_differs(self) -> None:
         self.assertEqual(self.differences(True), [
             "checks that are not in the log, which tells of none that is lost: 1, as document:d1#can_view@user:u1 allowed"])
+
+    def test_what_was_never_asked_is_not_looked_at(self) -> None:
+        load = Load(Scratch(), "http://127.0.0.1", None, 0)
+        load.calls = Counter({"write": 9, "content": 1, "batch": 2, "check": 5})
+        self.assertEqual(list(never_asked(load)), ["requests that were never made: version, list; give more --turns"])
+        load.calls.update(("version", "list"))
+        self.assertEqual(list(never_asked(load)), [])
 
     def test_other_tuples_differ(self) -> None:
         self.assertEqual(self.differences(True, True, add=[["folder", "f", "viewer", "user", "*", "*"]]), [

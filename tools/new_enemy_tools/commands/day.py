@@ -41,7 +41,7 @@ from new_enemy_tools.trace_pieces import digest_of
 from new_enemy_tools.windowing.audited_window import Audited, audited
 from new_enemy_tools.windowing.beginning import begun, version_of
 from new_enemy_tools.windowing.days import COMPARED, INDEX, JOINED_LOG, MAIL, PAGE, Days, Summary, compared
-from new_enemy_tools.windowing.kept_traces import keep_trace
+from new_enemy_tools.windowing.kept_traces import REPORT, keep_trace
 from new_enemy_tools.windowing.own_lines import Own
 from new_enemy_tools.windowing.state import CARRY, NOTHING, State, read_state, write_beside
 from new_enemy_tools.windowing.window_effects import texts_of
@@ -221,12 +221,11 @@ def keep_day(days: Days, given: Namespace, own: Own, found: Audited, ids: Option
         from new_enemy_tools.windowing.day_pages import write_day
         write_day(found, own, ids, 1 + (days.last or 0), days.work(PAGE))
     report = found.report
+    kept = [days.work(REPORT), *(keep_trace(days.work(), found, own) if given.keep_days else ())]
     write_whole(days.work("summary.json"), [json.dumps(Summary(
         given.names, digest, report.status(given.allow_unaudited), report.entries, len(report.findings),
         sum(report.coverage.not_audited.values()), report.held, report.verdict, report.coverage.row(), labels._asdict(), given.held_back,
-        digest_of(days.work("left")) if os.path.exists(days.work("left")) else "")._asdict())])
-    if given.keep_days:
-        keep_trace(days.work(), found, own)
+        digest_of(days.work("left")) if os.path.exists(days.work("left")) else "", {os.path.basename(path): digest_of(path) for path in kept})._asdict())])
     if os.path.exists(days.work("trace")):
         os.remove(days.work("trace"))
     shutil.rmtree(days.work(JOINED_LOG), ignore_errors=True)
@@ -248,7 +247,7 @@ def write_reports(days: Days, found: Audited, own: Own, ids: Optional[Ids], labe
     """The report as text, and with effects as rows of JSON; and what is written out, with what the days before say of their checks. `said` is
     what is told of what waits."""
     texts, where = texts_of(found, own, ids), places(found, own).__getitem__
-    write_whole(days.work("report.txt"), found.report.lines(where, beside=said))
+    write_whole(days.work(REPORT), found.report.lines(where, beside=said))
     write_whole(days.work("report.jsonl"), texts.rows)
     before = [(number, days.summary(number).looked) for number in days.numbers[:-COMPARED - 1:-1]]
     write_whole(days.work(MAIL), found.report.lines(where, texts.groups, [*said, *compared(labels, before)]))

@@ -3,11 +3,12 @@ import json
 import os
 from typing import NamedTuple, Optional
 
-from new_enemy_tools.commands.join import log_of, names_of, read_log, write
+from new_enemy_tools.commands.join import log_of, names_of, read_log, with_words, write
 from new_enemy_tools.faults import WindowFault
 from new_enemy_tools.files import write_whole
 from new_enemy_tools.importing.chained import end_of
 from new_enemy_tools.importing.going_on import read_left
+from new_enemy_tools.recording.beside import said_of, untold
 from new_enemy_tools.recording.days_joined import Before, Waiting, join_day, kept
 from new_enemy_tools.recording.log_files import LogFiles
 from new_enemy_tools.recording.sketches import JOINED, Given
@@ -51,10 +52,11 @@ def joined(days: Days, folders: list[str], ended: set[str], skew: int) -> Joined
     chain = None if left is None else read_left(left).chain
     if chain is not None:
         files.number, files.before = chain[0], chain[1]
-    count = write(join.lines(), files, folder)
+    words = {path: word for one in folders for path, word in untold(one).items()}
+    count = write(with_words(join, words), files, folder)
     after, waiting = join.after(), join.waiting()
     write_whole(days.work(JOIN), [json.dumps(after._asdict())])
-    said = _said(waiting, [one.name for one in join.late]) + unbegun
+    said = _said(waiting, [one.name for one in join.late]) + unbegun + list(map(said_of, words))
     return Joined(os.path.join(folder, os.listdir(folder)[0]) if count else None, waiting.checks, said)
 
 

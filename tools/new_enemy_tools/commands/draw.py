@@ -10,6 +10,7 @@ from new_enemy_tools.files import read_ids, traced
 from new_enemy_tools.graph import Drawing, svg
 from new_enemy_tools.names import Names
 from new_enemy_tools.progress import Progress
+from new_enemy_tools.strictjson import is_u64
 from new_enemy_tools.windowing.kept_traces import kept_day
 
 
@@ -21,6 +22,8 @@ def main(words: list[str]) -> int:
     parser.add_argument("trace", metavar="TRACE", help="the trace, joined input, or the folder of a day of ne day")
     parser.add_argument("line", metavar="LINE", type=int, help="the line of the entry")
     given = parser.parse_args(words)
+    if given.at is not None and not is_u64(given.at):
+        parser.error("--at is no timestamp, from 0 to 2^64 - 1")
     with Progress() as progress:
         day = kept_day(given.trace)
         trace = traced(given.trace, progress) if day is None else day.trace()

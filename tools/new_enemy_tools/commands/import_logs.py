@@ -124,8 +124,7 @@ def gathered(given: Namespace, base: Any, refusals: Refusals, progress: Progress
         chained = in_chain(given.logs, refusals, None if goes_on is None else goes_on.chain, goes_on is not None)
         if goes_on is not None:
             take_chain(goes_on, chained, refusals)
-        else:
-            tell_words(chained or [], refusals)
+        tell_words(chained or [], refusals)
         lines.facts.is_chained = chained is not None
         more = chain.from_iterable(gather_events(path, lines, given.jobs, refusals) for path in chained or given.logs)
         end = partial(with_base, given, lines, refusals, is_later)

@@ -18,8 +18,9 @@ from new_enemy_tools.importing.chained import end_of, in_chain
 from new_enemy_tools.importing.events import read_events
 from new_enemy_tools.importing.opened import opened
 from new_enemy_tools.importing.refusals import Refusals
+from new_enemy_tools.recording.beside import PASSED, Beside, said_of, untold
 from new_enemy_tools.recording.joining import Join
-from new_enemy_tools.recording.lines import ENCODE
+from new_enemy_tools.recording.lines import ENCODE, time_text
 from new_enemy_tools.recording.log_files import NAME, LogFault, LogFiles
 from new_enemy_tools.recording.overheard import overheard
 from new_enemy_tools.recording.own_events import Own, own_of
@@ -172,12 +173,25 @@ def write(lines: Iterable[Value], files: LogFiles, folder: str) -> int:
     return count
 
 
-def write_whole(join: Join, folder: str) -> int:
+def with_words(join: Join, words: dict[str, Beside]) -> Iterator[Value]:
+    """The joined lines, and where there are some, a gap for each word beside a log that no line of it tells."""
+    is_empty = True
+    for value in join.lines():
+        is_empty = False
+        yield value
+    last = max(one.until for one in join.sketches)
+    for path, found in {} if is_empty else words.items():
+        end = time_text(max(found.end, found.start, last))
+        yield {"event": "gap", **({"from": time_text(found.start)} if found.start else {}), "to": time_text(found.end) if found.end else end,
+               "reason": "%s: %s" % (PASSED, path), **({"lost": found.amount} if found.amount else {}), "time": end}
+
+
+def write_whole(join: Join, words: dict[str, Beside], folder: str) -> int:
     """Writes the joined log whole or not at all; how many lines it has."""
     part = folder.rstrip("/") + ".part"
     shutil.rmtree(part, ignore_errors=True)
     try:
-        count = write(join.lines(), LogFiles(part, JOINED + join.service, age=float("inf")), folder)
+        count = write(with_words(join, words), LogFiles(part, JOINED + join.service, age=float("inf")), folder)
         os.rename(part, folder)
     finally:
         shutil.rmtree(part, ignore_errors=True)
@@ -192,11 +206,14 @@ def main(words: list[str]) -> int:
         folders = [one for one in given.logs if os.path.isdir(one) and not taps_in(one)]
         own = [own_in(one, int(given.took * 1e9)) for one in given.logs if one not in folders]
         join = Join([log_of(folder) for folder in folders], given.skew * 1_000_000, own, int(given.stale_by * 1e9))
-        count = write_whole(join, given.out)
+        words = {path: word for folder in folders for path, word in untold(folder).items()}
+        count = write_whole(join, words, given.out)
     except OSError as fault:
         raise DeviceFault("cannot use %s: %s" % (fault.filename, fault.strerror)) from None
     for one in join.own:
         for reason, passed in sorted(one.passed.items()):
             tell("passed over %d in %s: %s" % (passed, one.name, reason), sys.stdout)
+    for path in words:
+        tell(said_of(path), sys.stdout)
     print("joined %d logs of %s: %d changes, %d lines" % (len(given.logs), join.service, join.way.spine.count, count))
     return 0

@@ -19,13 +19,13 @@ from new_enemy_tools.faults import PartsFault
 from new_enemy_tools.files import read_bytes
 from new_enemy_tools.parting.blocks import Source
 from new_enemy_tools.parting.cutting import Cut
-from new_enemy_tools.parting.manifest import MOST_PARTS, read_manifest
+from new_enemy_tools.parting.manifest import read_manifest
 from new_enemy_tools.parting.merging import Answer, answer_of
 from new_enemy_tools.parting.part_runs import run_all, run_parts
 from new_enemy_tools.parting.reports import read_part_report
 from new_enemy_tools.progress import Progress
 from new_enemy_tools.shown import tell as tell_line
-from new_enemy_tools.trace_pieces import PiecesReader, pieces_of
+from new_enemy_tools.trace_pieces import MOST_PARTS, PiecesReader, pieces_of
 
 
 def given_of(words: list[str]) -> Namespace:

@@ -16,6 +16,7 @@ from typing import Callable, Iterable, Iterator, NamedTuple, Optional
 from new_enemy_tools.audit_summary import LeftOut, Telling, telling_of, told_of, warnings_of
 from new_enemy_tools.audited_trace import read_audited
 from new_enemy_tools.baseline import read_baseline
+from new_enemy_tools.binding import uncompared
 from new_enemy_tools.commands.running import Parser, add_allowing
 from new_enemy_tools.coverage import coverage_in
 from new_enemy_tools.effects import EFFECTS
@@ -57,12 +58,12 @@ def form_of(name: str) -> Callable[[Telling], Iterator[str]]:
     return FORMS[name]
 
 
-def report_text(path: str) -> str:
-    """What the program wrote, of the whole or of a part."""
+def report_text(path: str, trace: str) -> str:
+    """What the program wrote, of the whole or of a part, of the trace that stands there."""
     data = read_bytes(path)
     if data.startswith(b"part "):
         from new_enemy_tools.parting.reports import text_of
-        return text_of(path, data)
+        return text_of(path, data, trace)
     return data.decode("utf-8", "replace")
 
 
@@ -114,10 +115,11 @@ class Teller:
                 held_over=day.held_over, held_back=day.held_back, unjudged=day.unjudged(trace))
         else:
             if self.report is None:
-                self.report = report_text(given.report)
+                self.report = report_text(given.report, given.trace)
             report = read_report(self.report)
             told = told_of(trace, report, step)
-            telling = telling_of(told, trace, Names(ids), given.trace, report, labels_in(self.data), coverage_in(self.data), out)
+            telling = telling_of(told, trace, Names(ids), given.trace, report, labels_in(self.data), coverage_in(self.data), out)._replace(
+                uncompared=uncompared(trace, report))
         return Rendered(telling, warnings_of(telling, out), [] if given.form == "html" else list(form_of(given.form)(telling)))
 
 

@@ -13,7 +13,7 @@ from new_enemy_tools.commands import import_logs
 from new_enemy_tools.coverage import coverage_in
 from new_enemy_tools.files import read_bytes
 from new_enemy_tools.findings import read_report
-from new_enemy_tools.fitting.load import Decision, Load
+from new_enemy_tools.fitting.load import CALLS, Decision, Load
 from new_enemy_tools.fitting.services import Tuple
 from new_enemy_tools.meaning import Settled
 from new_enemy_tools.trace import Trace, read_trace
@@ -86,6 +86,13 @@ def of_log(load: Load, log: Log, has_lost: bool) -> Iterator[str]:
         yield from _counted_line(what, len(some), ("%s#%s@%s" % one for one in some))
 
 
+def never_asked(load: Load) -> Iterator[str]:
+    """That some kinds of requests were not tried, as with few turns."""
+    never = [one for one in CALLS if not load.calls[one]]
+    if never:
+        yield "requests that were never made: %s; give more --turns" % ", ".join(never)
+
+
 def _of_audit(trace: Trace, text: str, log: Log) -> Iterator[str]:
     """What the audit finds, and of which replies the evaluator says otherwise."""
     lines: dict[str, list[int]] = {}
@@ -114,4 +121,4 @@ def compared(load: Load, room: str, program: str) -> Compared:
     sums = ["requests: " + ", ".join("%s %d" % one for one in sorted(load.calls.items())),
             "checks: %d answered, %d in the log" % (sum(load.asked.values()), len(log.of)), "audit: " + audit.stdout.strip().splitlines()[-1]]
     differs = [*failed, *of_log(load, log, bool(coverage.lost)), *_of_audit(read_trace(data), audit.stdout, log)]
-    return Compared(sums, differs, [] if coverage.is_whole else list(coverage.lines()))
+    return Compared(sums, differs, [*never_asked(load), *(() if coverage.is_whole else coverage.lines())])

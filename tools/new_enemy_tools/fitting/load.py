@@ -23,6 +23,8 @@ OTHERS += [(one, "editor", subject) for one in DOCUMENTS for subject in [*USERS,
 OTHERS += [(one, "banned", subject) for one in DOCUMENTS for subject in USERS] + [(one, "parent", FOLDER) for one in DOCUMENTS]
 BASE = [(GROUP, "member", INNER + "#member"), *((one, "owner", OWNER) for one in DOCUMENTS), *OTHERS[::2]]
 Decision = tuple[Tuple, bool]
+# What clients ask: writes, checks before content is saved and as it is shown, several checks at once, lists, and other checks.
+CALLS = ("write", "content", "version", "batch", "list", "check")
 
 
 class Load:

@@ -30,6 +30,7 @@ CONTEXTUAL = "contextual tuples"
 CONTEXT_OF_CONDITIONS = "context of conditions"
 CONTEXT_OF_CAVEATS = "context of caveats"
 CONDITIONAL = "conditional permission"
+UNKNOWN_FIELD = "a request with a field that is not known"
 USER_WILDCARD = "check of a wildcard as the user"
 USER_TYPED_WILDCARD = "check of a typed wildcard as the user"
 USER_USERSET = "check of a userset as the user"
@@ -52,9 +53,12 @@ LINE_MISSING = "check behind a line of the sequence that is missing"
 SNAPSHOT_TOO_OLD = "check at a snapshot older than where the state begins"
 NO_COMMIT_CAME = "check at a snapshot to which no commit came"
 NOT_AUDITED = (
-    CONTEXTUAL, CONTEXT_OF_CONDITIONS, CONTEXT_OF_CAVEATS, CONDITIONAL, USER_WILDCARD, USER_TYPED_WILDCARD, USER_USERSET, UNKNOWN_RELATION,
+    CONTEXTUAL, CONTEXT_OF_CONDITIONS, CONTEXT_OF_CAVEATS, CONDITIONAL, UNKNOWN_FIELD, USER_WILDCARD, USER_TYPED_WILDCARD, USER_USERSET, UNKNOWN_RELATION,
     BEFORE_BASE, OTHER_MODEL, NO_ONE_SNAPSHOT, UNREADABLE, UNREADABLE_CONTENT, HANGS_ON_LEFT_OUT, CIRCLE_TAKEN_AWAY, TOO_WIDE,
     STATE_NOT_KEPT, STATE_TO_COME, ORDER_UNKNOWN, WITHOUT_TIME, NO_BEGINNING, TOKEN_NO_BEGINNING, LINE_MISSING, SNAPSHOT_TOO_OLD, NO_COMMIT_CAME)
+
+# Why a tuple is left out, beside what a service names itself.
+TUPLE_FIELD = "a tuple with a field that is not known"
 
 # Lost in a gap.
 NO_LINE = "no line has these numbers of the sequence"

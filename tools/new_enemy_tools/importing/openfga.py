@@ -4,7 +4,7 @@ import re
 from functools import lru_cache
 from typing import Any, Iterator, Optional
 
-from new_enemy_tools.importing import located, openfga_dsl, printed
+from new_enemy_tools.importing import causes, located, openfga_dsl, printed
 from new_enemy_tools.importing.block import When
 from new_enemy_tools.importing.checks import Look
 from new_enemy_tools.importing.events import EVERY, Event, Line, Relationship, RelationRule, Stamp, put_stamp
@@ -14,10 +14,10 @@ from new_enemy_tools.importing.line_shapes import (ID, LABEL, NULL, PART, REPLY,
                                               form, needed)
 from new_enemy_tools.importing.located import List, line_at, line_of
 from new_enemy_tools.importing.models import Given, said_by
-from new_enemy_tools.importing.openfga_answers import answers_of, relationship_of
+from new_enemy_tools.importing.openfga_answers import STORED, answers_of, keys_of, relationship_of
 from new_enemy_tools.importing.packed_blocks import Indexer
 from new_enemy_tools.importing.pages import Page, refuse_missing
-from new_enemy_tools.importing.reading import Bad, get, spelled
+from new_enemy_tools.importing.reading import Bad, get, has_others, spelled
 from new_enemy_tools.importing.refusals import Refusals
 from new_enemy_tools.importing.service import (Answer, CheckedAt, Log, ServiceRules, Users, demand_of, nested, one_of, refuse_wild_tuplesets,
                                                text_or_none, tuplesets_of)
@@ -389,7 +389,7 @@ class OpenFgaLog(Log):
         """The tuples of a Write at the time of its line, each a change of its own: the deletes first, as the service's changes have them."""
         request = get(value, "request")
         sides = [("deletes", False), ("writes", True)]
-        keys = [(key, live) for side, live in sides for key in get(get(request, side), "tuple_keys") or ()]
+        keys = [(key, live) for side, live in sides for key in keys_of(get(request, side))]
         if not keys or any(get(get(request, side), key) not in IN_FULL for side, key in PASSES_OVER):
             return
         if stamp.time is None:
@@ -406,7 +406,8 @@ class OpenFgaLog(Log):
             self.refusals.refuse(event.file, event.line, str(fault))
             return False
         # A tuple that is left out is one of the feed all the same, so that each place and each page that was read twice is known.
-        event.asked = ("condition on a tuple",) if live and get(key, "condition") else None
+        unmapped = "condition on a tuple" if get(key, "condition") else causes.TUPLE_FIELD if has_others(key, STORED) else None
+        event.asked = (unmapped,) if live and unmapped else None
         return self.put(event, given, live, None)
 
     def when_of(self, said: Said) -> Optional[When]:

@@ -5,12 +5,17 @@ from typing import Any, Iterator, Optional
 from new_enemy_tools.importing import causes
 from new_enemy_tools.importing.events import EVERY, Relationship
 from new_enemy_tools.importing.passing import failure_of
-from new_enemy_tools.importing.reading import Bad, get
+from new_enemy_tools.importing.reading import Bad, get, has_others
 from new_enemy_tools.importing.refusals import Refusals
 from new_enemy_tools.importing.service import UNREAD, Answer, each, streamed
 
 # What a denial may have without its `allowed`.
 SILENT = frozenset(("allowed", "resolution"))
+# The fields of requests that decide, of each check of a batch, and of their tuple keys.
+ASKED = frozenset(("store_id", "authorization_model_id", "tuple_key", "contextual_tuples", "context", "consistency", "trace", "checks", "correlation_id",
+                   "type", "object", "relation", "user", "user_filters"))
+KEY = frozenset(("object", "relation", "user"))
+STORED = KEY | {"condition"}
 # The service takes every letter in an id but blanks of ASCII.
 OBJECT = re.compile(r"([^:#\s]+):([^#\s]+)", re.ASCII)
 
@@ -43,6 +48,14 @@ def relationship_of(key: object) -> Relationship:
     return Relationship(of, id_text, relation, user[0], user[1], user[2])
 
 
+def keys_of(side: object) -> list[Any]:
+    """The tuple keys of what a Write writes or deletes; raises Bad."""
+    keys = get(side, "tuple_keys") or []
+    if not isinstance(keys, list):
+        raise Bad("`tuple_keys` is no list")
+    return keys
+
+
 def answers_of(request: object, response: object, refusals: Refusals) -> Iterator[Answer]:
     """What a Check, a BatchCheck, a ListObjects or a ListUsers decides; raises Bad."""
     if get(request, "checks") is not None:
@@ -68,7 +81,9 @@ def _answer(request: object, check: object, answer: object) -> Answer:
 def _mapped(goal: Relationship, reply: bool, *asked: object) -> Answer:
     """An answer, with what a trace has no form for in the request or the check."""
     unmapped = None
-    if any(_contextual(one) for one in asked):
+    if any(has_others(one, ASKED) or has_others(get(one, "tuple_key"), KEY) for one in asked):
+        unmapped = causes.UNKNOWN_FIELD
+    elif any(_contextual(one) for one in asked):
         unmapped = causes.CONTEXTUAL
     elif any(get(one, "context") for one in asked):
         unmapped = causes.CONTEXT_OF_CONDITIONS

@@ -11,10 +11,10 @@ from new_enemy_tools.importing.checks import Look, Row
 from new_enemy_tools.importing.events import EVERY, Event, Line, Relationship, Stamp, put_stamp
 from new_enemy_tools.importing.line_shapes import GOAL, ID, LABEL, NULL, TEXT, TIME, USER_RELATION, Field, Form, Said, field, form, needed
 from new_enemy_tools.importing.located import line_of
-from new_enemy_tools.importing.reading import Bad, get
+from new_enemy_tools.importing.reading import Bad, get, has_others
 from new_enemy_tools.importing.refusals import Refusals
 from new_enemy_tools.importing.service import Answer, CheckedAt, Log, ServiceRules, demand_of, one_of, text_or_none
-from new_enemy_tools.importing.spicedb_answers import answers_of, relationship_of, revision_at, revision_in
+from new_enemy_tools.importing.spicedb_answers import answers_of, relationship_of, revision_at, revision_in, unmapped_of
 from new_enemy_tools.importing.spicedb_schema import Parser
 from new_enemy_tools.importing.spool import CALL, Lines, plain
 from new_enemy_tools.importing.yaml_files import is_yaml, read_yaml
@@ -87,7 +87,8 @@ def _logged_checks() -> tuple[Form, Form]:
 def _asks_for_newest(consistency: object) -> bool:
     """Whether the newest state is asked for; raises Bad where it is not known what is."""
     named = [key for key in CONSISTENCY if get(consistency, key) is not None]
-    if consistency not in (None, {}) and not named or get(consistency, CONSISTENCY[0]) not in (None, True):
+    is_other = consistency not in (None, {}) and not named or has_others(consistency, frozenset(CONSISTENCY))
+    if is_other or get(consistency, CONSISTENCY[0]) not in (None, True):
         raise Bad("unknown consistency %s" % str(consistency)[:80])
     return named[:1] == [CONSISTENCY[0]]
 
@@ -268,9 +269,8 @@ class SpiceDbLog(Log):
             given = get(update, "relationship")
             if live is None:
                 raise Bad("unknown operation %r" % (get(update, "operation"),))
-            reason = "caveat" if get(given, "optionalCaveat") else "expiration" if get(given, "optionalExpiresAt") else None
             event.line = line_of(update, line)
-            self.put(event, relationship_of(given), live, reason)
+            self.put(event, relationship_of(given), live, unmapped_of(given))
         event.line = line
         if updates:
             yield event

@@ -5,7 +5,7 @@ from typing import Any, Iterator, Optional
 from new_enemy_tools.importing import causes
 from new_enemy_tools.importing.events import EVERY, Relationship
 from new_enemy_tools.importing.passing import failure_of
-from new_enemy_tools.importing.reading import Bad, get
+from new_enemy_tools.importing.reading import Bad, get, has_others
 from new_enemy_tools.importing.refusals import Refusals
 from new_enemy_tools.importing.service import UNREAD, Answer, each, one_of, streamed, text_or_none
 from new_enemy_tools.importing.zedtokens import Older, Revision, read_revision
@@ -13,6 +13,12 @@ from new_enemy_tools.importing.zedtokens import Older, Revision, read_revision
 REPLIES = {"PERMISSIONSHIP_HAS_PERMISSION": True, "PERMISSIONSHIP_NO_PERMISSION": False}
 CONDITIONAL = "PERMISSIONSHIP_CONDITIONAL_PERMISSION"
 LOOKUP = "LOOKUP_"
+# The fields of requests that decide, and of what they name.
+ASKED = frozenset(("consistency", "resource", "permission", "subject", "context", "with_tracing", "items", "resource_object_type", "subject_object_type",
+                   "optional_subject_relation", "optional_limit", "optional_cursor", "optional_concrete_limit", "wildcard_option"))
+OBJECT = frozenset(("object_type", "object_id"))
+SUBJECT = frozenset(("object", "optional_relation"))
+STORED = frozenset(("resource", "relation", "subject", "optional_caveat", "optional_expires_at"))
 # What the numbers of a check, and of what a lookup found, stand for.
 CHECKED = (None, "PERMISSIONSHIP_NO_PERMISSION", "PERMISSIONSHIP_HAS_PERMISSION", CONDITIONAL)
 LOOKED_UP = (None, "PERMISSIONSHIP_HAS_PERMISSION", CONDITIONAL)
@@ -47,6 +53,17 @@ def relationship_of(given: object) -> Relationship:
     if not isinstance(relation, str) or not relation:
         raise Bad("a relationship has no relation")
     return _relationship(_object(get(given, "resource"), "resource"), relation, _subject(get(given, "subject")))
+
+
+def unmapped_of(given: object) -> Optional[str]:
+    """What a relationship in JSON has that a trace has no form for."""
+    if get(given, "optionalCaveat") or get(given, "optionalExpiresAt"):
+        return "caveat" if get(given, "optionalCaveat") else "expiration"
+    return causes.TUPLE_FIELD if has_others(given, STORED) or _has_others(get(given, "resource"), get(given, "subject")) else None
+
+
+def _has_others(resource: object, subject: object) -> bool:
+    return has_others(resource, OBJECT) or has_others(subject, SUBJECT) or has_others(get(subject, "object"), OBJECT)
 
 
 def _relationship(thing: tuple[str, str], relation: str, user: tuple[str, str, Optional[str]]) -> Relationship:
@@ -113,7 +130,9 @@ def _answer(request: object, resource: object, subject: object, found: object, n
     if said not in (*REPLIES, CONDITIONAL):
         raise Bad("the response has no permissionship")
     unmapped = None
-    if said == CONDITIONAL:
+    if has_others(request, ASKED) or _has_others(resource, subject):
+        unmapped = causes.UNKNOWN_FIELD
+    elif said == CONDITIONAL:
         unmapped = causes.CONDITIONAL
     elif get(request, "context"):
         unmapped = causes.CONTEXT_OF_CAVEATS

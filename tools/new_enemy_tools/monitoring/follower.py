@@ -12,6 +12,8 @@ from new_enemy_tools.held_signals import held_back
 WAITING = 16
 # The program's status where it refuses what it reads; others are of devices and memory.
 REFUSES = 2
+# What it says where it can't write its carry; what it tells is read.
+WRITE_FAULT = "write fault "
 
 
 class _Feeder:
@@ -60,7 +62,7 @@ class _Feeder:
 
 class Follower:
     def __init__(self, program: str, words: list[str], inbox: "SimpleQueue[Any]"):
-        self.program, self.inbox = program, inbox
+        self.program, self.words, self.inbox = program, words, inbox
         self._error = tempfile.TemporaryFile()
         try:
             with held_back():
@@ -99,6 +101,8 @@ class Follower:
             return MonitorFault("the program refuses the trace: %s" % said)
         if status < 0:
             return DeviceFault("%s was killed by signal %d" % (self.program, -status))
+        if said.startswith(WRITE_FAULT):
+            said += ", of %s" % self.words[self.words.index("--carry") + 1]
         return DeviceFault("%s ended with status %d%s" % (self.program, status, said and ": " + said))
 
     def kill(self) -> None:

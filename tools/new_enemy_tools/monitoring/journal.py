@@ -1,16 +1,16 @@
 """The rows that a monitor keeps of its alerts: a file that grows, and is written anew when a run begins."""
 import json
 import os
-from typing import IO, Iterable, Optional
+from typing import BinaryIO, Iterable, Optional
 
-from new_enemy_tools.faults import MonitorFault
+from new_enemy_tools.faults import MonitorFault, naming, write_all
 from new_enemy_tools.monitoring.alerts import Row, line_of
 
 
 class Journal:
     def __init__(self, path: str):
         self.path = path
-        self._file: Optional[IO[bytes]] = None
+        self._file: Optional[BinaryIO] = None
         self._is_synced = True
 
     def read(self) -> list[Row]:
@@ -38,18 +38,19 @@ class Journal:
         if self._file is None:
             # What is written stays where the monitor is killed, and where it is synced also where the machine is.
             self._file = open(self.path, "ab", buffering=0)
-        self._file.write(line_of(row).encode() + b"\n")
+        write_all(self._file, line_of(row).encode() + b"\n")
         self._is_synced = False
 
     def sync(self) -> None:
         """Whoever asks may tell others what was added."""
         if self._file is not None and not self._is_synced:
-            os.fsync(self._file.fileno())
+            with naming(self.path):
+                os.fsync(self._file.fileno())
             self._is_synced = True
 
     def replace(self, rows: Iterable[Row]) -> None:
         """All of it by other rows, or not at all."""
-        with open(self.path + ".part", "wb") as file:
+        with naming(self.path), open(self.path + ".part", "wb") as file:
             for row in rows:
                 file.write(line_of(row).encode() + b"\n")
             file.flush()

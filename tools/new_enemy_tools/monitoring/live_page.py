@@ -9,7 +9,7 @@ from new_enemy_tools.monitoring.alerts import Row
 from new_enemy_tools.monitoring.exposition import Before
 from new_enemy_tools.monitoring.pure_monitor import Core, Unjoined
 from new_enemy_tools.page import asset, color_of, head
-from new_enemy_tools.shown import markup
+from new_enemy_tools.shown import grouped, markup
 
 # A monitor that has not looked for so long, in seconds, may hang.
 SILENT = 30.0
@@ -48,7 +48,7 @@ def live_of(core: Core, before: Before, logs: str, wall: int, is_caught_up: bool
                for cause, count in causes.items()}
     if sums.gaps:
         missing["gaps in which nobody counted"] = sums.gaps
-    return Live(logs, wall, core.number, sums.entries, dict(core.counts), missing, tuple(run.coverage().lines()),
+    return Live(logs, wall, core.number, sums.entries, dict(core.counts), missing, tuple(run.coverage().lines(grouped)),
                 sums.labels, sums.elsewhere, tuple(_waiting(core, is_caught_up)), core.lag(wall), tuple(_behind(core)),
                 tuple(core.recent), sum(core.alerts.values()))
 
@@ -57,12 +57,12 @@ def _waiting(core: Core, is_caught_up: bool) -> Iterator[str]:
     unjoined: Unjoined = core.unjoined
     if not is_caught_up:
         yield "the log was not read to its end so far"
-    for count, words in ((len(core.holding.lines), "%d lines of the log are held, since lines behind them may move them"),
-                         (core.run.through.open, "%d checks wait for a commit that settles them"),
-                         (core.run.waiting, "%d findings wait for the changes that their effect hangs on"),
-                         (unjoined.checks, "%d checks wait for other logs: " + " and ".join(unjoined.logs).replace("%", "%%"))):
+    for count, words in ((len(core.holding.lines), "%s lines of the log are held, since lines behind them may move them"),
+                         (core.run.through.open, "%s checks wait for a commit that settles them"),
+                         (core.run.waiting, "%s findings wait for the changes that their effect hangs on"),
+                         (unjoined.checks, "%s checks wait for other logs: " + " and ".join(unjoined.logs).replace("%", "%%"))):
         if count:
-            yield words % count
+            yield words % grouped(count)
     for folder in unjoined.unbegun:
         yield "%s has no base state so far, and nothing of it is looked at" % folder
     for name, is_passed in core.passed.items():
@@ -74,7 +74,7 @@ def _behind(core: Core) -> Iterator[str]:
     for receiver, sends in core.delivery.waiting.items():
         if sends:
             fault = core.delivery.faults.get(receiver)
-            yield "%s has not got %d alerts%s" % (receiver, len(sends), "" if fault is None else ": " + fault)
+            yield "%s has not got %s alerts%s" % (receiver, grouped(len(sends)), "" if fault is None else ": " + fault)
 
 
 def verdict_of(live: Live) -> str:
@@ -95,8 +95,8 @@ def _lines(live: Live, age: float) -> Iterator[str]:
     yield from head("new_enemy: the monitor", style, "", AGAIN)
     yield "<body><header><h1>The monitor of %s</h1>" % markup(live.logs)
     if age > SILENT:
-        yield '<p class="wrong" id="silent">The monitor has not looked for %d seconds, and may hang: what stands here is ' \
-              "of then.</p>" % age
+        yield '<p class="wrong" id="silent">The monitor has not looked for %s seconds, and may hang: what stands here is ' \
+              "of then.</p>" % grouped(int(age))
         verdict = "incomplete" if verdict == "clean" else verdict
     yield '<p><span class="verdict %s">%s</span> in run %d, at %sZ.</p></header>' % (
         color_of(verdict, live.labels, live.elsewhere), SAID[verdict], live.run, text_of_time(live.wall)[:SECONDS])
@@ -104,21 +104,21 @@ def _lines(live: Live, age: float) -> Iterator[str]:
     yield from _listed("waiting", "What waits, and bounds that are passed", live.waiting)
     yield from _listed("coverage", "What was looked at in this run", live.coverage)
     yield from _listed("missing", "What was not looked at whole since this monitor began",
-                       ["%d %s" % (count, cause) for cause, count in sorted(live.missing.items())])
+                       ["%s %s" % (grouped(count), cause) for cause, count in sorted(live.missing.items())])
     yield from _listed("behind", "Who has not got all alerts", live.behind)
     yield from _alerts(live)
     yield "</body></html>"
 
 
 def _sums(live: Live) -> Iterator[str]:
-    yield '<ul class="sums"><li><strong>%s</strong> checks audited and settled</li>' % format(live.entries, ",")
-    yield "<li><strong>%.1f s</strong> the oldest reply waits</li>" % live.lag
+    yield '<ul class="sums"><li><strong>%s</strong> checks audited and settled</li>' % grouped(live.entries)
+    yield "<li><strong>%s s</strong> the oldest reply waits</li>" % format(live.lag, ",.1f")
     for (finding, effect), count in sorted(live.findings.items()):
         yield '<li><strong class="%s">%s</strong> %s %s</li>' % tuple(
-            map(markup, (effect, format(count, ","), finding, effect)))
+            map(markup, (effect, grouped(count), finding, effect)))
     yield "</ul>"
     if live.elsewhere:
-        yield '<p id="elsewhere">%d checks were of other stores, and are not recorded.</p>' % live.elsewhere
+        yield '<p id="elsewhere">%s checks were of other stores, and are not recorded.</p>' % grouped(live.elsewhere)
     if live.labels.note:
         yield '<p id="note">%s</p>' % markup(live.labels.note)
 
@@ -131,7 +131,7 @@ def _listed(name: str, title: str, lines: Sequence[str]) -> Iterator[str]:
 def _alerts(live: Live) -> Iterator[str]:
     yield "<h2>Alerts</h2>"
     if live.told > len(live.alerts):
-        yield '<p class="soft">The last %d of %d; all are in the reports of the days.</p>' % (len(live.alerts), live.told)
+        yield '<p class="soft">The last %s of %s; all are in the reports of the days.</p>' % (grouped(len(live.alerts)), grouped(live.told))
     elif not live.alerts:
         yield '<p class="soft">None since this monitor began.</p>'
     for row in reversed(live.alerts):

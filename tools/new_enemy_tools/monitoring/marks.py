@@ -5,7 +5,7 @@ receiver has an alert, and before anybody hears of that.
 """
 import os
 
-from new_enemy_tools.faults import MonitorFault
+from new_enemy_tools.faults import MonitorFault, naming
 
 FORM, SIZE = "%020d", 21
 
@@ -42,7 +42,8 @@ class Mark:
     def write(self, number: int) -> None:
         file = self.open()
         try:
-            os.pwrite(file, (FORM % number).encode() + b"\n", 0)
-            os.fsync(file)
+            with naming(self.path):
+                os.pwrite(file, (FORM % number).encode() + b"\n", 0)
+                os.fsync(file)
         finally:
             os.close(file)

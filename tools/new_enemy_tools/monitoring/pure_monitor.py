@@ -214,7 +214,7 @@ class Core:
         loss = 0.0 if coverage.is_whole else coverage._replace(open=0).percent
         yield from self._bound("loss", loss, self.settings.most_loss,
                                "%s; that is %.2f percent that was not looked at whole" % (
-            coverage.said_counts, loss))
+            coverage.counts(), loss))
 
     def _waits_for(self) -> str:
         checks, logs = self.unjoined.checks, self.unjoined.logs

@@ -10,7 +10,7 @@ from typing import BinaryIO, NamedTuple, Optional
 
 from new_enemy_tools.commands.day import go_on, keep_day
 from new_enemy_tools.coverage import mark_of
-from new_enemy_tools.faults import MonitorFault
+from new_enemy_tools.faults import MonitorFault, naming, write_all
 from new_enemy_tools.files import read_bytes, write_whole
 from new_enemy_tools.findings import Finding
 from new_enemy_tools.ids import mark_of_file
@@ -49,7 +49,7 @@ class RunFile:
         self._lines, self._starts = [before + 1], [0]
 
     def add(self, data: bytes) -> None:
-        self._file.write(data)
+        write_all(self._file, data)
         self._lines.append(self._lines[-1] + data.count(b"\n"))
         self._starts.append(self._starts[-1] + len(data))
 
@@ -65,7 +65,7 @@ class RunFile:
         place = start + (len(before) + 1 if before else 0)
         self._file.truncate(place)
         self._file.seek(place)
-        self._file.write(with_mark(last, mark) + b"\n")
+        write_all(self._file, with_mark(last, mark) + b"\n")
         self._file.close()
 
 
@@ -92,7 +92,7 @@ def words_of(days: Days, run: Run) -> list[str]:
     words = ["--carry", days.work(CARRY), "--oldest-snapshot", str(run.oldest)]
     if run.state.carry is None:
         return words
-    with open(days.work(BEGUN), "wb") as file:
+    with naming(days.work(BEGUN)), open(days.work(BEGUN), "wb") as file:
         file.write(run.state.carry.data)
     return ["--from", days.work(BEGUN), *words]
 

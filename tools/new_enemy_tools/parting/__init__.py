@@ -8,8 +8,8 @@ part, also one that can't be read. A record of evidence stands in the part of it
 trace ends before a line `---`. Behind a line longer than 2^20 bytes nothing is read.
 
 partK.trace, partK.evidence: part K, from 1, with as many lines as the whole; each ends in a newline.
-manifest.json: `format`, 1; `cut`, a hash of N and of all lines; `parts`; `lines`; of each part `entries`, `trace_bytes` and `evidence_bytes`
-(null where there was none). It is written last. Before a part is audited its files must have the bytes of the manifest.
+manifest.json: `format`, 2; `cut`, a hash of N and of all lines; `parts`; `lines`; of each part `entries`; `traces` and `evidence` (null where
+there was none), of each file its bytes and its BLAKE2b. It is written last. Before a part is audited its files must be those of the manifest.
 partK.report: what the program said of part K: a head of six lines, an empty line, standard output and standard error. The head is
 
     part 3 of 16

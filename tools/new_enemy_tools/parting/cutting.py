@@ -6,8 +6,9 @@ from functools import partial
 from hashlib import blake2b
 from typing import Callable, Iterator, Optional
 
+from new_enemy_tools.faults import naming
 from new_enemy_tools.parting.blocks import Blocks, Source
-from new_enemy_tools.parting.manifest import Manifest, evidence_path, trace_path
+from new_enemy_tools.parting.manifest import Manifest, Written, evidence_path, trace_path
 from new_enemy_tools.parting.placing import EVERYWHERE, Objects
 from new_enemy_tools.parting.sharing import shared
 from new_enemy_tools.parting.spread import Spread, spread_evidence, spread_trace
@@ -42,21 +43,26 @@ class Cut:
         return Manifest(self.name.hexdigest(), self.parts, len(self.table) - 1,
                         [entries[part] for part in range(1, self.parts + 1)], traces, records)
 
-    def _spread(self, path_of: Callable[[str, int], str], blocks: Blocks, spread: Callable[[bytes], Spread]) -> list[int]:
-        """Spreads the lines of a file over the parts; how many bytes each part has."""
+    def _spread(self, path_of: Callable[[str, int], str], blocks: Blocks, spread: Callable[[bytes], Spread]) -> list[Written]:
+        """Spreads the lines of a file over the parts; what each part has."""
         with ExitStack() as stack:
             files = [stack.enter_context(open(path_of(self.folder, part), "xb", buffering=BUFFER)) for part in range(1, self.parts + 1)]
-            digest = blake2b(digest_size=16)
+            digest, digests = blake2b(digest_size=16), [blake2b(digest_size=16) for _ in files]
             for done in shared(spread, self._noted(blocks, digest), self.jobs):
-                for file, pieces in zip(files, done.pieces):
-                    file.write(b"".join(pieces))
+                for file, made, pieces in zip(files, digests, done.pieces):
+                    lines = b"".join(pieces)
+                    made.update(lines)
+                    with naming(file.name):
+                        file.write(lines)
                 self.table.extend(done.table)
-            for file in files:
-                file.write(blocks.too_long)
+            for file, made in zip(files, digests):
+                made.update(blocks.too_long)
+                with naming(file.name):
+                    file.write(blocks.too_long)
+                    file.flush()
             digest.update(blocks.too_long)
             self.name.update(digest.digest())
-            sizes = [file.tell() for file in files]
-        return sizes
+            return [Written(file.tell(), made.hexdigest()) for file, made in zip(files, digests)]
 
     def _noted(self, blocks: Blocks, digest: blake2b) -> Iterator[bytes]:
         """The blocks, each of which the digest takes."""

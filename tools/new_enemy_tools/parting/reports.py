@@ -4,9 +4,9 @@ import re
 import shutil
 from typing import IO, NamedTuple
 
-from new_enemy_tools.faults import PartsFault
+from new_enemy_tools.faults import PartsFault, naming
 from new_enemy_tools.findings import ReportFault
-from new_enemy_tools.parting.manifest import Manifest
+from new_enemy_tools.parting.manifest import NAME as MANIFEST, Manifest, read_manifest, trace_path as cut_path
 
 HEAD = re.compile(rb"part ([0-9]{1,3}) of ([0-9]{1,3})\ncut ([0-9a-f]{32})\nentries ([0-9]{1,18})\nstatus (-?[0-9]{1,9})\n"
                   rb"output ([0-9]{1,18})\nerror ([0-9]{1,18})\n\n")
@@ -36,19 +36,25 @@ def write_report(path: str, manifest: Manifest, part: int, status: int, output: 
         file.seek(0)
     head = "part %d of %d\ncut %s\nentries %d\nstatus %d\noutput %d\nerror %d\n\n" % (
         part, manifest.parts, manifest.cut, manifest.entries[part - 1], status, sizes[0], sizes[1])
-    with open(path + ".new", "wb") as report:
+    with naming(path), open(path + ".new", "wb") as report:
         report.write(head.encode())
         shutil.copyfileobj(output, report)
         shutil.copyfileobj(error, report)
     os.replace(path + ".new", path)
 
 
-def text_of(path: str, data: bytes) -> str:
-    """What the program wrote of a part; raises ReportFault where it ended with a fault."""
+def text_of(path: str, data: bytes, trace: str) -> str:
+    """What the program wrote of a part, whose trace stands there; raises ReportFault where it ended with a fault, or is of another part."""
+    folder = os.path.dirname(trace)
     try:
         report = read_part_report(path, data)
+        cut = read_manifest(folder).cut if os.path.exists(os.path.join(folder, MANIFEST)) else report.cut
     except PartsFault as fault:
         raise ReportFault(str(fault)) from None
+    if report.cut != cut:
+        raise ReportFault("%s is of another cut than %s; give the report of that part" % (path, trace))
+    if cut_path(folder, report.part) != trace and os.path.exists(cut_path(folder, report.part)):
+        raise ReportFault("%s is of %s, and %s is none of its; give the report of that part" % (path, report.name, trace))
     if report.status not in (0, 1):
         raise ReportFault("%s: the audit of %s ended with status %d: %s"
                           % (path, report.name, report.status, report.error.decode("utf-8", "replace").strip()))

@@ -13,6 +13,7 @@ from typing import Iterable, NamedTuple, Optional
 from new_enemy_tools.importing.refusals import Refusals
 
 NAME = re.compile(r"beside-[0-9]+-[0-9a-f]+")
+PASSED = "requests that another recorder passed"
 
 
 class Beside(NamedTuple):
@@ -96,21 +97,32 @@ def tell_words(paths: Iterable[str], refusals: Refusals) -> None:
     or that pass requests still."""
     for folder in sorted({os.path.dirname(path) for path in paths}):
         try:
-            names = sorted(filter(NAME.fullmatch, os.listdir(folder or ".")))
+            words = untold(folder)
         except OSError as fault:
             refusals.gap(folder, "gap beside the log: whether others passed requests is not known, since %s can't be listed: %s" % (
                 folder or ".", fault.strerror))
             continue
-        for name in names:
-            path = os.path.join(folder, name)
-            try:
-                with open(path, encoding="utf-8") as file:
-                    found = Beside(*json.load(file))
-            except (OSError, ValueError, TypeError):
-                found = Beside(0, 0, 0)
-            refusals.gap(path, "gap beside the log: %s tells that another recorder passed requests that it did not record; the next one in "
-                         "that folder writes down from when to when" % path, found.start)
-            refusals.lose("requests that another recorder passed", found.amount or None, max(0, found.end - found.start))
+        for path, found in words.items():
+            refusals.gap(path, said_of(path), found.start)
+            refusals.lose(PASSED, found.amount or None, max(0, found.end - found.start))
+
+
+def untold(folder: str) -> dict[str, Beside]:
+    """The words in a folder, by their files; of one that can't be read nothing is known. Raises OSError."""
+    found = {}
+    for name in sorted(filter(NAME.fullmatch, os.listdir(folder or "."))):
+        path = os.path.join(folder, name)
+        try:
+            with open(path, encoding="utf-8") as file:
+                found[path] = Beside(*json.load(file))
+        except (OSError, ValueError, TypeError):
+            found[path] = Beside(0, 0, 0)
+    return found
+
+
+def said_of(path: str) -> str:
+    return ("gap beside the log: %s tells that another recorder passed requests that it did not record; the next one in that folder writes down "
+            "from when to when" % path)
 
 
 def _new_path(folder: str) -> str:

@@ -55,6 +55,8 @@ class Summary(NamedTuple):
     held_back: int = 0
     # the checksum of what its import left
     left: str = ""
+    # the checksums of its report, and of its trace where that is kept, by the names of the files
+    kept: dict[str, str] = {}
 
 
 class Days:

@@ -10,7 +10,7 @@ from contextlib import suppress
 from typing import IO, Callable, Iterator, NamedTuple, Optional
 
 from new_enemy_tools import limits
-from new_enemy_tools.faults import DeviceFault, WindowFault
+from new_enemy_tools.faults import DeviceFault, WindowFault, naming
 from new_enemy_tools.findings import ON_TOKENS, Finding, finding_of
 from new_enemy_tools.parting.blocks import Blocks
 from new_enemy_tools.trace_lines import COMMIT_START
@@ -84,7 +84,7 @@ class Follow:
         self.carry: Optional[str] = None
         if old.carry is not None:
             self.carry = self._next()
-            with open(self.carry, "wb") as file:
+            with naming(self.carry), open(self.carry, "wb") as file:
                 file.write(old.carry.data)
 
     def _next(self) -> str:

@@ -8,17 +8,18 @@ from typing import NamedTuple, Optional
 
 from new_enemy_tools.compressed_files import ENDS, pack, packed_at, unpacked
 from new_enemy_tools.coverage import Coverage, of_row
-from new_enemy_tools.faults import ToolFault
+from new_enemy_tools.faults import ToolFault, naming
 from new_enemy_tools.findings import Finding, Report, finding_of
 from new_enemy_tools.labels import Labels
 from new_enemy_tools.progress import Progress
 from new_enemy_tools.trace import Trace, read_lines
 from new_enemy_tools.trace_lines import ids_in
+from new_enemy_tools.trace_pieces import digest_of
 from new_enemy_tools.windowing.audited_window import Audited
 from new_enemy_tools.windowing.days import TRACES
 from new_enemy_tools.windowing.own_lines import Own
 
-TRACE, NUMBERS = "trace", TRACES[-1]
+REPORT, TRACE, NUMBERS = "report.txt", "trace", TRACES[-1]
 NOT_AUDITED = re.compile("line ([0-9]+): not audited, ")
 
 
@@ -26,12 +27,13 @@ class NotKept(ToolFault):
     """A day whose trace is not kept."""
 
 
-def keep_trace(folder: str, found: Audited, own: Own) -> None:
-    """Keeps a day's trace in its folder."""
-    pack(os.path.join(folder, TRACE), chain((row.raw + b"\n" for row in found.old.rows), own.blocks()))
-    with open(os.path.join(folder, NUMBERS), "w", encoding="utf-8") as file:
+def keep_trace(folder: str, found: Audited, own: Own) -> list[str]:
+    """Keeps a day's trace in its folder; the files."""
+    packed, numbers = pack(os.path.join(folder, TRACE), chain((row.raw + b"\n" for row in found.old.rows), own.blocks())), os.path.join(folder, NUMBERS)
+    with naming(numbers), open(numbers, "w", encoding="utf-8") as file:
         json.dump({"before": found.old.lines, "carried": [row.line for row in found.old.rows]}, file, separators=(",", ":"))
         file.write("\n")
+    return [packed, numbers]
 
 
 class DayReport(NamedTuple):
@@ -67,6 +69,7 @@ class KeptDay:
         path = packed_at(os.path.join(self.folder, TRACE))
         if not path:
             raise NotKept("%s has no trace: the traces of as many days are kept as --keep-days says" % self.folder)
+        self._refuse_other(path, os.path.join(self.folder, NUMBERS))
         data = unpacked(path)
         try:
             with open(os.path.join(self.folder, NUMBERS), encoding="utf-8") as file:
@@ -83,10 +86,23 @@ class KeptDay:
         trace.table = next((mark for mark in map(ids_in, raws[len(carried):len(carried) + 1]) if mark is not None), None)
         return trace
 
+    def _refuse_other(self, *paths: str) -> None:
+        """Raises NotKept where a file is not as the day's summary has it; that of an earlier version has no checksums."""
+        try:
+            with open(os.path.join(self.folder, "summary.json"), encoding="utf-8") as file:
+                kept = json.load(file).get("kept", {})
+            others = [path for path in paths if kept.get(os.path.basename(path), "") not in ("", digest_of(path))]
+        except (OSError, ValueError, AttributeError):
+            # What needs them says so.
+            return
+        if others:
+            raise NotKept("%s is not as its day kept it: it was altered, or is of another day" % others[0])
+
     def report(self) -> DayReport:
         """What its report says; raises NotKept."""
         try:
-            with open(os.path.join(self.folder, "report.txt"), encoding="utf-8") as file:
+            self._refuse_other(os.path.join(self.folder, REPORT))
+            with open(os.path.join(self.folder, REPORT), encoding="utf-8") as file:
                 lines = file.read().splitlines()
             with open(os.path.join(self.folder, "summary.json"), encoding="utf-8") as file:
                 summary = json.load(file)

@@ -10,7 +10,7 @@ from functools import cached_property
 from hashlib import blake2b
 from typing import Any, Iterator, NamedTuple, Optional, Sequence
 
-from new_enemy_tools.faults import WindowFault
+from new_enemy_tools.faults import WindowFault, naming
 from new_enemy_tools.files import read_bytes
 from new_enemy_tools.windowing.carries import Carry, Item, adds_as, raw_of
 
@@ -162,7 +162,7 @@ def write_beside(folder: str, state: State) -> None:
     head = {"new_enemy_state": FORMAT, **state.head._asdict(), "carry": state.seal, "carried": _sum_of(lines)}
     said = json.dumps({**head, "sum": _sum_of_head(head)}, separators=(",", ":"))
     for name, data in ((CARRIED, lines), (HEAD, said.encode() + b"\n")):
-        with open(os.path.join(folder, name), "wb") as file:
+        with naming(os.path.join(folder, name)), open(os.path.join(folder, name), "wb") as file:
             file.write(data)
             file.flush()
             os.fsync(file.fileno())
