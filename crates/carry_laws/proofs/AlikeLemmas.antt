@@ -25,7 +25,8 @@ use Rattle.windows.proofs.GrownLemmas.{behind}
 use Rattle.follow_laws.specs.Begun.{Begins}
 use Rattle.follow_laws.specs.Told.{moments, at_moments, told_from, is_at, told_on, left_over}
 use Rattle.carry_laws.specs.Carried.{GoesOnAlike, HaveSameSteps, StandsIn, asked_left, asked_on, placeless}
-use Rattle.carry_laws.specs.Asked.{Known, asked, is_asked, is_audited, issues_between, knows_version}
+use Rattle.carry_laws.specs.Asked.{asked, is_asked, is_audited, issues_between, knows_version}
+use Rattle.carry_laws.specs.declared.known.Known.{Known}
 use Rattle.carry_laws.proofs.AskLemmas.{all_above_asked, asked_by_entry, filter_alike}
 use Rattle.carry_laws.proofs.OnwardLemmas.{dropped, onward}
 use Rattle.follow_laws.proofs.OnceLemmas.{own_line}
@@ -60,13 +61,13 @@ any_faced q same (x ∷ xs) =
     ap (λ (b : Bool). b || list_any q (map placeless xs)) (same x) ∙ ap (λ (b : Bool). q x || b) (any_faced q same xs)
 
 -- where one passes it has a place
-record Passes (q : EntryValue → Bool) (xs : List EntryValue) : Type 0 where
+pub record Passes (q : EntryValue → Bool) (xs : List EntryValue) : Type 0 where
   pub place : ℕ
   pub entry : EntryValue
   pub there : slice_get xs place ≡ Some entry
   pub passes : q entry ≡ true
 
-one_passes : (q : EntryValue → Bool) (xs : List EntryValue) → list_any q xs ≡ true → Passes q xs
+pub one_passes : (q : EntryValue → Bool) (xs : List EntryValue) → list_any q xs ≡ true → Passes q xs
 one_passes q [] any = absurd (let no : false ≡ true = any in cc)
 one_passes q (x ∷ xs) any = by_test (one_passes q xs) (q x) refl any
   where
@@ -77,7 +78,7 @@ one_passes q (x ∷ xs) any = by_test (one_passes q xs) (q x) refl any
         record { place = suc r.place; entry = r.entry; there = r.there; passes = r.passes }
 
 -- what passes issued the version, from that line on
-issued_from : (from line : ℕ) (v : Version) (x : EntryValue) → issues_between from line v x ≡ true
+pub issued_from : (from line : ℕ) (v : Version) (x : EntryValue) → issues_between from line v x ≡ true
     → (from ≤ x.line) × (issues v x ≡ true)
 issued_from from line v x is =
     let parts = and_parts (leb from x.line) (ltb x.line line && issues v x) is in

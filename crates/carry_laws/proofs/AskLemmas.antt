@@ -16,7 +16,8 @@ use Rattle.findings.specs.declared.finding.Finding.{Finding}
 use Rattle.findings.specs.declared.finding.What.{What}
 use Rattle.windows.specs.Growth.{GoesOn}
 use Rattle.follow_laws.specs.Told.{at_moments, moments, told_from}
-use Rattle.carry_laws.specs.Asked.{Known, all_known, asked, is_asked, is_audited, issues_between, known_from, knows_named, knows_version}
+use Rattle.carry_laws.specs.Asked.{all_known, asked, is_asked, is_audited, issues_between, known_from, knows_named, knows_version}
+use Rattle.carry_laws.specs.declared.known.Known.{Known}
 
 -- ---- the lines of findings
 

@@ -14,7 +14,7 @@ use Rattle.windows.specs.Growth.{HasRisingLines, is_settled}
 use Rattle.windows.proofs.CompactionLemmas.{IsUpTo}
 use Rattle.windows.proofs.CutLemmas as cut
 use Rattle.windows.proofs.WindowLemmas.{every, filter_mapped}
-use Rattle.carry_laws.specs.Asked.{Known}
+use Rattle.carry_laws.specs.declared.known.Known.{Known}
 use Rattle.carry_laws.specs.Carried.{StandsIn, has_commit_at, lines_above, placeless}
 use Rattle.carry_laws.proofs.ReachLemmas.{any_weaker}
 use Rattle.carry_laws.proofs.StandInLemmas.{bound, first_lines, first_up_to, lines_are, rest_lines, weaker, window, within_bound}

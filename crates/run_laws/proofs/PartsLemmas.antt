@@ -18,7 +18,8 @@ use Rattle.follow_laws.specs.Begun.{Begins}
 use Rattle.follow_laws.specs.Told.{told_between}
 use Rattle.follow_laws.proofs.FirstLemmas.{itself_law}
 use Rattle.follow_laws.proofs.ThroughLemmas.{first_entry}
-use Rattle.carry_laws.specs.Asked.{Known, asked, known_from}
+use Rattle.carry_laws.specs.Asked.{asked, known_from}
+use Rattle.carry_laws.specs.declared.known.Known.{Known}
 use Rattle.carry_laws.specs.Carried.{GoesOnAlike, StandsIn}
 use Rattle.carry_laws.specs.Together.{AreParts, IsPart, Part}
 use Rattle.carry_laws.specs.Together as together

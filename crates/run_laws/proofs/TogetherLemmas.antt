@@ -18,7 +18,8 @@ use Rattle.windows.proofs.GrownLemmas.{behind}
 use Rattle.follow_laws.specs.Begun.{Begins, IsOfBytes}
 use Rattle.follow_laws.specs.Told.{at_moments, left_over, moments}
 use Rattle.follow_laws.proofs.FirstLemmas.{itself_law}
-use Rattle.carry_laws.specs.Asked.{Known, is_asked, is_audited, known_from}
+use Rattle.carry_laws.specs.Asked.{is_asked, is_audited, known_from}
+use Rattle.carry_laws.specs.declared.known.Known.{Known}
 use Rattle.carry_laws.specs.Carried.{placeless}
 use Rattle.carry_laws.specs.Together as together
 use Rattle.carry_laws.proofs.AskLemmas.{audited_from, filter_alike, filter_all, pass_where}

@@ -1,0 +1,89 @@
+//! Which entries are audited by what is known of a log.
+
+ghost use Rattle.std.specs.Prelude.{◌≡◌, ◌<◌, true, is_some, length, slice_get, Some};
+ghost use Rattle.trace_lines.specs.EntryViews.{entry_value};
+ghost use Rattle.trace_lines.specs.Values.{EntryValue};
+ghost use Rattle.trace_lines.specs.Versions.{entry_version, version_named};
+ghost use Rattle.carry_laws.specs.Asked.{is_audited, knows_named};
+ghost use Rattle.carry_laws.specs.Together.{StaysKnown};
+
+use crate::alike::is_above_all;
+use carry_laws::Known;
+use trace_lines::laws::{entries_rise, versions_issued_once};
+use trace_lines::{Entry, EntryKind, Trace};
+
+fn names_some(entry: &Entry<'_>) -> bool
+    ensures { result ≡ is_some (version_named (entry_value entry.now).kind (entry_version (entry_value entry.now))) }
+{
+    match entry.kind {
+        EntryKind::Check => entry.version.is_some(),
+        EntryKind::Content => false,
+    }
+}
+
+/// Whether an entry names no version, or one that is known, where those are known that were issued from a line on.
+fn knows_named(log: &Trace, from: u64, i: usize) -> bool
+    requires { i < length log.now.entries }
+    ensures { (e : EntryValue) → slice_get log.now.entries i ≡ Some e → result ≡ knows_named from log.now.entries e }
+{
+    if from == 0 {
+        return true;
+    }
+    entries_rise(log);
+    versions_issued_once(log);
+    match log.content_of(i) {
+        Some(issuer) => from <= log.entry(issuer).line,
+        None => !names_some(&log.entry(i)),
+    }
+}
+
+/// Whether an entry is audited where so much is known of the log.
+pub fn is_audited(log: &Trace, known: Known, i: usize) -> bool
+    requires { i < length log.now.entries }
+    ensures { (e : EntryValue) → slice_get log.now.entries i ≡ Some e → result ≡ is_audited known log.now.entries e }
+{
+    known.base <= log.entry(i).snapshot && knows_named(log, known.versions, i)
+}
+
+/// Whether as much is known of the versions that waiting entries name, where those are known that were issued from a
+/// further line on.
+pub(crate) fn stays_known(log: &Trace, from: u64, further: u64) -> bool
+    ensures { result ≡ true → StaysKnown log.now from further }
+{
+    // bounded by the entries: each turn looks at one
+    for i in 0..log.len() {
+        if is_above_all(log, log.entry(i).snapshot)
+            && knows_named(log, from, i) != knows_named(log, further, i)
+        {
+            return false;
+        }
+    }
+    true
+}
+
+/// The last line up to a wanted one, and not in front of another, from which on versions may be carried: each that a
+/// waiting entry names is known there as before. Nothing is promised of it: what is handed on is compared with the log.
+pub(crate) fn versions_from(log: &Trace, from: u64, wanted: u64) -> u64 {
+    let mut versions = wanted;
+    // bounded by the entries: each turn looks at one
+    for i in 0..log.len() {
+        let entry = log.entry(i);
+        if is_above_all(log, entry.snapshot) {
+            match log.content_of(i) {
+                Some(issuer) => {
+                    let line = log.entry(issuer).line;
+                    if from <= line {
+                        versions = versions.min(line);
+                    }
+                }
+                // where none was let go, none may be
+                None => {
+                    if from == 0 && names_some(&entry) {
+                        return 0;
+                    }
+                }
+            }
+        }
+    }
+    versions.max(from)
+}
