@@ -85,22 +85,26 @@ issued_from from line v x is =
     (leb-true from x.line parts.0, (and_parts (ltb x.line line) (issues v x) parts.1).1)
 
 module _ (known : Known) (p : ℕ) (u y : TraceValue) (z : StandsIn known p u y) where
-  knows_alike : (line : ℕ) (o : Option Version)
-      → knows_version known.versions u.entries line o ≡ knows_version known.versions y.entries line o
-  knows_alike line None = refl
-  knows_alike line (Some v) = ap (λ (b : Bool). (known.versions == 0) || b) (
-      sym (any_kept q z.keep (λ x is. let i = issued_from known.versions line v x is in z.keeps.issuers v x i.1 i.0) u.entries)
+  -- of versions that were issued from that line on, or from a further one, both know the same
+  pub knows_alike : (from : ℕ) → known.versions ≤ from → (line : ℕ) (o : Option Version)
+      → knows_version from u.entries line o ≡ knows_version from y.entries line o
+  knows_alike from later line None = refl
+  knows_alike from later line (Some v) = ap (λ (b : Bool). (from == 0) || b) (
+      sym (any_kept q z.keep (λ x is.
+      let i = issued_from from line v x is in
+      let low = i.0 in
+      z.keeps.issuers v x i.1 (omega (arith, low, later))) u.entries)
       ∙ sym (any_faced q (λ x. refl) (filter z.keep u.entries))
       ∙ ap (list_any q) (sym z.entries)
       ∙ any_faced q (λ x. refl) y.entries)
     where
       q : EntryValue → Bool
-      q x = issues_between known.versions line v x
+      q x = issues_between from line v x
 
   -- a copy of an entry is audited where that is
   pub audited_alike : (e d : EntryValue) → placeless d ≡ placeless e → is_audited known u.entries e ≡ is_audited known y.entries d
   audited_alike e d copied =
-      ap (λ (b : Bool). leb known.base e.snapshot && b) (knows_alike e.line (version_named e.kind (entry_version e)))
+      ap (λ (b : Bool). leb known.base e.snapshot && b) (knows_alike known.versions (omega arith) e.line (version_named e.kind (entry_version e)))
       ∙ sym (ap (is_audited known y.entries) copied)
 
   -- who issued a known version is kept

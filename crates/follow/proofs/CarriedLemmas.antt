@@ -8,6 +8,7 @@ use Rattle.audit.specs.Devices.{Reader, Reading, Writing, OfBytes, OfInput, OfWh
 use Rattle.audit.specs.Kinds.{IsOneOf}
 use Rattle.audit.specs.Kinds as kind
 use Rattle.audit.specs.declared.plain.AuditFault.{AuditFault}
+use Rattle.carry_laws.specs.declared.known.Known.{Known}
 use Rattle.follow.specs.Carried.{IsBegunBy, IsCarryRead, Refuses, RunsBehind, answered}
 use Rattle.follow.specs.Handing.{RunEnds, RunWentOut}
 use Rattle.follow.specs.Running.{Run}
@@ -107,7 +108,7 @@ module _ {V : Type 0} (begun : V → KeptValue × ℕ) (carry trace : Reading) (
     run = λ r is.
         of_whole-map (λ (s : Reader). s.given) (λ (s : Reader). s.ends) carry.before carry.after
         (λ b. IsBegunBy b (begun v).0 (begun v).1)
-        (λ b. (k : KeptValue) × (base : ℕ) × IsBegunBy b k base × Run (log_behind k) (RunEnds k base) (RunWentOut k base) trace out r)
+        (λ b. (k : KeptValue) × (known : Known) × IsBegunBy b k known × Run (log_behind k) (RunEnds k known) (RunWentOut k known) trace out r)
         (λ b so. (
           (begun v).0,
           (begun v).1,

@@ -40,7 +40,8 @@ fn is_asked(trace: &Trace, known: Known, line: u64) -> bool
     if i >= trace.len() {
         return true;
     }
-    trace.entry(i).line != line || is_audited(trace, known, i)
+    let entry = trace.entry(i);
+    entry.line != line || is_audited(trace, known, i)
 }
 
 /// Appends those of the findings that are on entries which are audited by what is known. It is refused only where
