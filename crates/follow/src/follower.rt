@@ -10,8 +10,8 @@ ghost use Rattle.follow.specs.SoFar.{IsFollowed, TellsFromSame, TellsPiece, Tell
 
 use crate::asking::push_asked;
 use crate::heartbeat::{Heartbeat, push_heartbeat, settled_from};
-use carry_laws::Known;
 use audit::{MakingJudge, PausedJudge, Verdict};
+use carry_laws::Known;
 use findings::{Finding, push_last_lines, push_lines};
 use monitor::{Monitor, stand_behind, tell_further};
 use std::alloc::{AllocError, Global};

@@ -31,8 +31,8 @@ use devices::{Sink, Source};
 use findings::{Finding, push_last_lines};
 use runs::{DeclaredLine, KeptLog, Wanted, hand_on, is_audited};
 use std::alloc::{AllocError, Global};
-use trace_lines::{EntryKind, Trace};
 use trace_lines::laws::{entries_rise, stand_in_order, valid_strata, versions_issued_once};
+use trace_lines::{EntryKind, Trace};
 use userset_index::UsersetIndex;
 
 /// How a run ended.

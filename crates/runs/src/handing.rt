@@ -104,7 +104,10 @@ pub fn hand_on<'a>(
         return Ok(None);
     };
     let versions = versions_from(log, known.versions, wanted.versions);
-    if base < known.base || versions < known.versions || !stays_known(log, known.versions, versions) {
+    if base < known.base
+        || versions < known.versions
+        || !stays_known(log, known.versions, versions)
+    {
         return Ok(None);
     }
     let carry = Carry {
