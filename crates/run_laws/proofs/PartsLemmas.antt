@@ -203,7 +203,7 @@ module _ (k : KeptValue) (log : IsLog k) (from : ℕ) (r : Ran) (begun : IsBegun
   all_pass test [] m d none at = cc
   all_pass test (e ∷ es) m d none at = by_test (λ m none at. all_pass test es m d none at) (test e) refl m none at
     where
-      abbrev rest_of : List EntryValue
+      rest_of : List EntryValue
       rest_of = filter (λ (x : EntryValue). not (test x)) es
 
       by_test : ((m : ℕ) → eqb (length rest_of) 0 ≡ true → slice_get es m ≡ Some d → test d ≡ true)
