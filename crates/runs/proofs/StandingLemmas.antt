@@ -221,7 +221,7 @@ same_answer false false there back = refl
 
 -- ---- which entries go on
 
-open_unsettled : (t : TraceValue) (e : EntryValue) → is_settled t e ≡ false → is_open t e ≡ true
+pub open_unsettled : (t : TraceValue) (e : EntryValue) → is_settled t e ≡ false → is_open t e ≡ true
 open_unsettled t e unset = by_last (last_time t) refl
   where
     by_last : (o : Option ℕ) → last_time t ≡ o → is_above o e.snapshot ≡ true

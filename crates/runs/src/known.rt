@@ -6,6 +6,7 @@ ghost use Rattle.trace_lines.specs.Values.{EntryValue};
 ghost use Rattle.trace_lines.specs.Versions.{entry_version, version_named};
 ghost use Rattle.carry_laws.specs.Asked.{is_audited, knows_named};
 ghost use Rattle.carry_laws.specs.Together.{StaysKnown};
+ghost use Rattle.runs.specs.Alike.{is_open};
 
 use crate::alike::is_above_all;
 use carry_laws::Known;
@@ -45,6 +46,17 @@ pub fn is_audited(log: &Trace, known: Known, i: usize) -> bool
     known.base <= log.entry(i).snapshot && knows_named(log, known.versions, i)
 }
 
+/// Whether as much is known of the version that an entry names, where it waits, and where those are known that were
+/// issued from a further line on.
+fn stays_named(log: &Trace, from: u64, further: u64, i: usize) -> bool
+    requires { i < length log.now.entries }
+    ensures { result ≡ true → (e : EntryValue) → slice_get log.now.entries i ≡ Some e → is_open log.now e ≡ true
+        → knows_named further log.now.entries e ≡ knows_named from log.now.entries e }
+{
+    !is_above_all(log, log.entry(i).snapshot)
+        || knows_named(log, further, i) == knows_named(log, from, i)
+}
+
 /// Whether as much is known of the versions that waiting entries name, where those are known that were issued from a
 /// further line on.
 pub(crate) fn stays_known(log: &Trace, from: u64, further: u64) -> bool
@@ -52,9 +64,7 @@ pub(crate) fn stays_known(log: &Trace, from: u64, further: u64) -> bool
 {
     // bounded by the entries: each turn looks at one
     for i in 0..log.len() {
-        if is_above_all(log, log.entry(i).snapshot)
-            && knows_named(log, from, i) != knows_named(log, further, i)
-        {
+        if !stays_named(log, from, further, i) {
             return false;
         }
     }
