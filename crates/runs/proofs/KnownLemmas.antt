@@ -50,7 +50,7 @@ module _ (t : TraceValue) (rising : IsStrictlyIncreasing (entry_lines t.entries)
               list_any_at q t.entries j c (slice_get_within t.entries j c there)
               (ap q (get_or_from_slice_get t.entries j c c there)
               ∙ ap (λ (b : Bool). b && (ltb c.line e.line && issues v c)) behind
-              ∙ ap (λ (b : Bool). b && issues v c) (lt-ltb c.line e.line (line_before t rising j i c e there at m.earlier))
+              ∙ ap (λ (b : Bool). b && issues v c) (lt-ltb c.line e.line (line_before t rising i j e c at there m.earlier))
               ∙ issued)
           by_line false front = by_any (list_any q t.entries) refl
             where
@@ -95,10 +95,6 @@ module _ (t : TraceValue) (rising : IsStrictlyIncreasing (entry_lines t.entries)
                   let same : told.0 ≡ v = (let both : Some told.0 ≡ Some v = sym told.1 ∙ name in cc) in
                   told.2 p.entry
                   (p.place, slice_get_within t.entries p.place p.entry p.there, get_or_from_slice_get t.entries p.place p.entry p.entry p.there)
-                  (ltb-true p.entry.line e.line (in_front p))
+                  (ltb-true p.entry.line e.line (and_parts (ltb p.entry.line e.line) (issues v p.entry)
+                  (and_parts (leb from p.entry.line) (ltb p.entry.line e.line && issues v p.entry) p.passes).1).0)
                   (ap (λ (w : Version). issues w p.entry) same ∙ parts.1)
-
-              in_front : (p : Passes (issues_between from e.line v) t.entries) → ltb p.entry.line e.line ≡ true
-              in_front p =
-                  (and_parts (ltb p.entry.line e.line) (issues v p.entry)
-                  (and_parts (leb from p.entry.line) (ltb p.entry.line e.line && issues v p.entry) p.passes).1).0

@@ -8,15 +8,14 @@ ghost use Rattle.tuple_text.specs.Sets.{set_eq};
 ghost use Rattle.tuple_text.specs.Tuples.{TupleValue};
 ghost use Rattle.version_chains.specs.Commits.{changelog, is_stored};
 ghost use Rattle.version_chains.specs.Touches.{touch_value};
-ghost use Rattle.trace_lines.specs.EntryViews.{entry_value};
 ghost use Rattle.trace_lines.specs.Values.{EntryValue};
 ghost use Rattle.token_order.specs.Order.{commit_lines_of};
 ghost use Rattle.carry_laws.specs.Carried.{placeless};
-ghost use Rattle.runs.specs.Alike.{commits_above, goes_on, is_above, is_open, issues_some, last_time, touch_eq, touches_above};
+ghost use Rattle.runs.specs.Alike.{commits_above, goes_on, is_above, is_open, last_time, touch_eq, touches_above};
 
 use marks::MarkedSet;
 use trace_lines::laws::stand_in_order;
-use trace_lines::{Entry, EntryKind, Trace};
+use trace_lines::{EntryKind, Trace};
 use tuple_text::{FactRef, SetRef, UserRef};
 use version_chains::{Chains, TouchRef};
 use zookie::Zookie;
@@ -217,23 +216,17 @@ pub(crate) fn is_above_all(log: &Trace, at: u64) -> bool
     }
 }
 
-/// Whether an entry issues a version.
-pub(crate) fn issues_some(entry: &Entry<'_>) -> bool
-    ensures { result ≡ issues_some (entry_value entry.now).kind (entry_value entry.now).version }
-{
-    match entry.kind {
-        EntryKind::Check => false,
-        EntryKind::Content => entry.version.is_some(),
-    }
-}
-
 /// Whether an entry is still to be judged, or a later check may name its version, of those issued from a line on.
 pub(crate) fn goes_on(log: &Trace, from: u64, i: usize) -> bool
     requires { i < length log.now.entries }
     ensures { (e : EntryValue) → slice_get log.now.entries i ≡ Some e → result ≡ goes_on from log.now e }
 {
     let entry = log.entry(i);
-    is_above_all(log, entry.snapshot) || (issues_some(&entry) && from <= entry.line)
+    let issues = match entry.kind {
+        EntryKind::Check => false,
+        EntryKind::Content => entry.version.is_some(),
+    };
+    is_above_all(log, entry.snapshot) || (issues && from <= entry.line)
 }
 
 /// Whether the entries of the other are those of the log that go on, of versions those issued from a line on.

@@ -97,8 +97,8 @@ pub fn hand_on<'a>(
 ) -> Result<Option<Carry<'a>>, AllocError>
     requires { AreDeclarationsOf log.now (texts_of declared.now) }
     ensures carry { IfOk result (λ o. IfSome o (λ c. IsHandedOn known log.now (carry_value c))) }
-    ensures names { IfOk result (λ o. IfSome o (λ c. (c.lines ≡ wanted.lines) × (c.base ≤ wanted.oldest)
-        × (option_map (λ s. s.now) c.before ≡ option_map (λ s. s.now) wanted.before))) }
+    ensures names { IfOk result (λ o. IfSome o (λ c. (c.lines ≡ wanted.entry.lines) × (c.base ≤ wanted.entry.oldest)
+        × (option_map (λ s. s.now) c.before ≡ option_map (λ s. s.now) wanted.entry.before))) }
 {
     let Some((commit, base)) = base_of(log, declared, wanted.oldest) else {
         return Ok(None);

@@ -1,9 +1,7 @@
 //! Which entries are audited by what is known of a log.
 
-ghost use Rattle.std.specs.Prelude.{◌≡◌, ◌<◌, true, is_some, length, slice_get, Some};
-ghost use Rattle.trace_lines.specs.EntryViews.{entry_value};
+ghost use Rattle.std.specs.Prelude.{◌≡◌, ◌<◌, true, length, slice_get, Some};
 ghost use Rattle.trace_lines.specs.Values.{EntryValue};
-ghost use Rattle.trace_lines.specs.Versions.{entry_version, version_named};
 ghost use Rattle.carry_laws.specs.Asked.{is_audited, knows_named};
 ghost use Rattle.carry_laws.specs.Together.{StaysKnown};
 ghost use Rattle.runs.specs.Alike.{is_open};
@@ -11,16 +9,7 @@ ghost use Rattle.runs.specs.Alike.{is_open};
 use crate::alike::is_above_all;
 use carry_laws::Known;
 use trace_lines::laws::{entries_rise, versions_issued_once};
-use trace_lines::{Entry, EntryKind, Trace};
-
-fn names_some(entry: &Entry<'_>) -> bool
-    ensures { result ≡ is_some (version_named (entry_value entry.now).kind (entry_version (entry_value entry.now))) }
-{
-    match entry.kind {
-        EntryKind::Check => entry.version.is_some(),
-        EntryKind::Content => false,
-    }
-}
+use trace_lines::{EntryKind, Trace};
 
 /// Whether an entry names no version, or one that is known, where those are known that were issued from a line on.
 fn knows_named(log: &Trace, from: u64, i: usize) -> bool
@@ -34,7 +23,13 @@ fn knows_named(log: &Trace, from: u64, i: usize) -> bool
     versions_issued_once(log);
     match log.content_of(i) {
         Some(issuer) => from <= log.entry(issuer).line,
-        None => !names_some(&log.entry(i)),
+        None => {
+            let entry = log.entry(i);
+            match entry.kind {
+                EntryKind::Check => entry.version.is_none(),
+                EntryKind::Content => true,
+            }
+        }
     }
 }
 
@@ -77,8 +72,7 @@ pub(crate) fn versions_from(log: &Trace, from: u64, wanted: u64) -> u64 {
     let mut versions = wanted;
     // bounded by the entries: each turn looks at one
     for i in 0..log.len() {
-        let entry = log.entry(i);
-        if is_above_all(log, entry.snapshot) {
+        if is_above_all(log, log.entry(i).snapshot) {
             match log.content_of(i) {
                 Some(issuer) => {
                     let line = log.entry(issuer).line;
@@ -88,7 +82,7 @@ pub(crate) fn versions_from(log: &Trace, from: u64, wanted: u64) -> u64 {
                 }
                 // where none was let go, none may be
                 None => {
-                    if from == 0 && names_some(&entry) {
+                    if from == 0 && !knows_named(log, 1, i) {
                         return 0;
                     }
                 }
