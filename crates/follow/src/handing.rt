@@ -31,8 +31,8 @@ use devices::{Sink, Source};
 use findings::{Finding, push_last_lines};
 use runs::{DeclaredLine, KeptLog, Wanted, hand_on, is_audited};
 use std::alloc::{AllocError, Global};
+use trace_lines::Trace;
 use trace_lines::laws::{entries_rise, stand_in_order, valid_strata, versions_issued_once};
-use trace_lines::{EntryKind, Trace};
 use userset_index::UsersetIndex;
 
 /// How a run ended.
@@ -195,28 +195,6 @@ fn first_store(trace: &Trace, declared: &[DeclaredLine]) -> Option<u64> {
     None
 }
 
-/// The line from which on so many versions were issued, or 0 where fewer were; the log has so many lines.
-fn line_of_last(trace: &Trace, versions: Option<u64>, lines: u64) -> u64 {
-    let Some(mut left) = versions else {
-        return 0;
-    };
-    let mut from = lines.saturating_add(1);
-    let mut i = trace.len();
-    // bounded by the entries: each turn looks at one
-    while i > 0 {
-        i -= 1;
-        let entry = trace.entry(i);
-        if matches!(entry.kind, EntryKind::Content) && entry.version.is_some() {
-            if left == 0 {
-                return from;
-            }
-            left -= 1;
-            from = entry.line;
-        }
-    }
-    0
-}
-
 /// The text of a carry of a log behind so many lines, of which so much is known, where one is asked for, and the log has a
 /// base that is not below the one that is known. It is the last that may be, up to the greatest of that base, the first
 /// commit and what is asked for.
@@ -238,7 +216,7 @@ fn handed_text(
     let wanted = Wanted {
         lines,
         oldest: handing.oldest.max(known.base).max(first),
-        versions: line_of_last(trace, handing.versions, lines),
+        versions: handing.versions,
         before: handing.before,
     };
     match hand_on(alloc, trace, declared, known, wanted)? {

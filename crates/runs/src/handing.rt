@@ -76,8 +76,9 @@ pub struct Wanted<'a> {
     pub lines: u64,
     /// The base is up to this timestamp.
     pub oldest: u64,
-    /// Versions are carried that were issued from this line on, or from an earlier one where a waiting entry names it.
-    pub versions: u64,
+    /// So many of the versions that were issued last are carried, and more where waiting entries name earlier ones; all
+    /// where it is `None`.
+    pub versions: Option<u64>,
     /// What tells the carry before from others, where there is one.
     pub before: Option<&'a str>,
 }
@@ -103,7 +104,7 @@ pub fn hand_on<'a>(
     let Some((commit, base)) = base_of(log, declared, wanted.oldest) else {
         return Ok(None);
     };
-    let versions = versions_from(log, known.versions, wanted.versions);
+    let versions = versions_from(log, known.versions, wanted.versions, wanted.lines);
     if base < known.base
         || versions < known.versions
         || !stays_known(log, known.versions, versions)

@@ -6,7 +6,7 @@ ghost use Rattle.carry_laws.specs.Asked.{is_audited, knows_named};
 ghost use Rattle.carry_laws.specs.Together.{StaysKnown};
 ghost use Rattle.runs.specs.Alike.{is_open};
 
-use crate::alike::is_above_all;
+use crate::alike::{is_above_all, issues_some};
 use carry_laws::Known;
 use trace_lines::laws::{entries_rise, versions_issued_once};
 use trace_lines::{EntryKind, Trace};
@@ -66,10 +66,33 @@ pub(crate) fn stays_known(log: &Trace, from: u64, further: u64) -> bool
     true
 }
 
-/// The last line up to a wanted one, and not in front of another, from which on versions may be carried: each that a
-/// waiting entry names is known there as before. Nothing is promised of it: what is handed on is compared with the log.
-pub(crate) fn versions_from(log: &Trace, from: u64, wanted: u64) -> u64 {
-    let mut versions = wanted;
+/// The line from which on so many versions were issued, in a log of so many lines, or 0 where fewer were.
+fn line_of_last(log: &Trace, versions: u64, lines: u64) -> u64 {
+    let mut left = versions;
+    let mut from = lines.saturating_add(1);
+    let mut i = log.len();
+    // bounded by the entries: each turn looks at one
+    while i > 0 {
+        i -= 1;
+        if issues_some(log, i) {
+            if left == 0 {
+                return from;
+            }
+            left -= 1;
+            from = log.entry(i).line;
+        }
+    }
+    0
+}
+
+/// The line from which on versions are carried, where so many of those that were issued last are wanted, or all: not in
+/// front of the line from which on they are known, and as much is known there of each that a waiting entry names. Nothing
+/// is promised of it: what is handed on is compared with the log.
+pub(crate) fn versions_from(log: &Trace, from: u64, wanted: Option<u64>, lines: u64) -> u64 {
+    let Some(wanted) = wanted else {
+        return from;
+    };
+    let mut versions = line_of_last(log, wanted, lines);
     // bounded by the entries: each turn looks at one
     for i in 0..log.len() {
         if is_above_all(log, log.entry(i).snapshot) {
