@@ -1,19 +1,30 @@
 -- Versions that are known, by the entries that issued them.
 use Rattle.std.proofs.Common.{◌≡◌, ℕ, ◌<◌, ◌≤◌, ◌==◌, ◌||◌, ◌&&◌, not, Bool, true, false, leb, ltb, List, Option, Some, None, refl, sym, ap, ◌∙◌, arith}
-use Rattle.std.specs.Prelude.{Contains, IsTrue, is_some, is_none, slice_get}
+use Rattle.std.specs.Prelude.{Contains, IsTrue, is_some, is_none, option_map, slice_get}
 use Rattle.std.specs.List.{list_any}
 use Rattle.std.specs.List.Sorted.{IsStrictlyIncreasing}
 use Rattle.std.proofs.lemmas.Bool.{le-leb, lt-ltb, ltb-true, and_parts, true≢false}
 use Rattle.std.proofs.lemmas.List.Folds.{list_any_at}
 use Rattle.std.proofs.lemmas.Option.{get_or_from_slice_get, slice_get_within}
+use Rattle.tuple_text.specs.Sets.{SetValue}
 use Rattle.token_order.specs.Found.{is_unknown_version}
 use Rattle.token_order.proofs.Denials.{unknown_told}
 use Rattle.token_order.proofs.Lines.{line_before}
 use Rattle.trace_lines.specs.Values.{EntryValue, TraceValue, entry_lines}
-use Rattle.trace_lines.specs.Versions.{AreIssuedOnce, Version, content_of, entry_version, issues, version_named}
+use Rattle.trace_lines.specs.Versions.{AreIssuedOnce, Version, content_of, entry_version, issues, version_named, version_of}
+use Rattle.trace_lines.specs.declared.entry.EntryKind.{EntryKind}
+use Rattle.trace_lines.specs.declared.entry.EntryKind.TheVariants.{Check, Content}
 use Rattle.trace_lines.proofs.IssuedVersions.{Means, named_content-means}
 use Rattle.carry_laws.specs.Asked.{issues_between, knows_named, knows_version}
+use Rattle.runs.specs.Alike.{names_some}
 use Rattle.carry_laws.proofs.AlikeLemmas.{Passes, issued_from, one_passes}
+
+pub named_some : (s : SetValue) (kind : EntryKind) (label : Option (List ℕ))
+    → is_some (version_named kind (option_map (version_of s) label)) ≡ names_some kind label
+named_some s Check None = refl
+named_some s Check (Some l) = refl
+named_some s Content None = refl
+named_some s Content (Some l) = refl
 
 module _ (t : TraceValue) (rising : IsStrictlyIncreasing (entry_lines t.entries)) (from i : ℕ) (e : EntryValue)
     (at : slice_get t.entries i ≡ Some e) (some : (from == 0) ≡ false) where

@@ -44,6 +44,11 @@ abbrev pub issues_some : EntryKind → Option (List ℕ) → Bool
 issues_some Check v = false
 issues_some Content v = is_some v
 
+-- another check with a version names it
+abbrev pub names_some : EntryKind → Option (List ℕ) → Bool
+names_some Check v = is_some v
+names_some Content v = false
+
 -- it is still to be judged, or a later check may name its version, of those that were issued from a line on
 abbrev pub goes_on : ℕ → TraceValue → EntryValue → Bool
 goes_on from t e = is_open t e || (issues_some e.kind e.version && nat_le from e.line)

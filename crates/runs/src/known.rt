@@ -4,12 +4,24 @@ ghost use Rattle.std.specs.Prelude.{◌≡◌, ◌<◌, true, length, slice_get,
 ghost use Rattle.trace_lines.specs.Values.{EntryValue};
 ghost use Rattle.carry_laws.specs.Asked.{is_audited, knows_named};
 ghost use Rattle.carry_laws.specs.Together.{StaysKnown};
-ghost use Rattle.runs.specs.Alike.{is_open};
+ghost use Rattle.runs.specs.Alike.{is_open, names_some};
 
 use crate::alike::{is_above_all, issues_some};
 use carry_laws::Known;
 use trace_lines::laws::{entries_rise, versions_issued_once};
 use trace_lines::{EntryKind, Trace};
+
+/// Whether an entry names a version.
+fn names_some(log: &Trace, i: usize) -> bool
+    requires { i < length log.now.entries }
+    ensures { (e : EntryValue) → slice_get log.now.entries i ≡ Some e → result ≡ names_some e.kind e.version }
+{
+    let entry = log.entry(i);
+    match entry.kind {
+        EntryKind::Check => entry.version.is_some(),
+        EntryKind::Content => false,
+    }
+}
 
 /// Whether an entry names no version, or one that is known, where those are known that were issued from a line on.
 fn knows_named(log: &Trace, from: u64, i: usize) -> bool
@@ -23,13 +35,7 @@ fn knows_named(log: &Trace, from: u64, i: usize) -> bool
     versions_issued_once(log);
     match log.content_of(i) {
         Some(issuer) => from <= log.entry(issuer).line,
-        None => {
-            let entry = log.entry(i);
-            match entry.kind {
-                EntryKind::Check => entry.version.is_none(),
-                EntryKind::Content => true,
-            }
-        }
+        None => !names_some(log, i),
     }
 }
 
@@ -105,7 +111,7 @@ pub(crate) fn versions_from(log: &Trace, from: u64, wanted: Option<u64>, lines: 
                 }
                 // where none was let go, none may be
                 None => {
-                    if from == 0 && !knows_named(log, 1, i) {
+                    if from == 0 && names_some(log, i) {
                         return 0;
                     }
                 }

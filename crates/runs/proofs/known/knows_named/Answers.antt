@@ -1,9 +1,9 @@
-use Rattle.std.proofs.Common.{◌≡◌, ◌==◌, ◌∙◌, ℕ, false, sym, ap, arith}
+use Rattle.std.proofs.Common.{◌≡◌, ◌==◌, ◌∙◌, ℕ, not, false, sym, ap, arith}
 use Rattle.std.proofs.lemmas.Bool.{ne_eqb}
 use Rattle.trace_lines.specs.EntryViews.{entry_value}
 use Rattle.carry_laws.specs.Asked.{knows_named}
 use Rattle.carry_laws.proofs.AskLemmas.{knows_all}
-use Rattle.runs.proofs.KnownLemmas.{knows_by_issuer, knows_by_none}
+use Rattle.runs.proofs.KnownLemmas.{knows_by_issuer, knows_by_none, named_some}
 use Rattle.runs.proofs.known.knows_named.Goals as goal
 
 pub returns-then-from-eq0 : goal.returns-then-from-eq0
@@ -21,5 +21,7 @@ returns-in-Some c e at =
 pub returns-in-None : goal.returns-in-None
 returns-in-None c e at =
     let some : (c.args.from == 0) ≡ false = ne_eqb c.args.from 0 (λ same. let apart = c.if-from-eq0.false in apart same) in
-    sym (knows_by_none c.args.log.now c.entries_rise.ensures c.args.from c.args.i e at some
-    (sym c.content_of.ensures.value ∙ c.in-None.is))
+    ap not (c.names_some.ensures e at)
+    ∙ sym (knows_by_none c.args.log.now c.entries_rise.ensures c.args.from c.args.i e at some
+    (sym c.content_of.ensures.value ∙ c.in-None.is)
+    ∙ ap not (named_some e.goal.set e.kind e.version))

@@ -4,7 +4,7 @@ use Rattle.runs.proofs.StandingLemmas.{open_unsettled}
 use Rattle.runs.proofs.known.stays_known.Goals as goal
 
 pub returns : goal.returns
-returns c yes i e at unset =
+returns c stays i e at unset =
     let log = c.args.log.now in
     let within = slice_get_within log.entries i e at in
     let ended = c.loop-i-test.false in
