@@ -219,7 +219,8 @@ fn handed_text(
         versions: handing.versions,
         before: handing.before,
     };
-    match hand_on(alloc, trace, declared, known, wanted)? {
+    let carry = hand_on(alloc, trace, declared, known, wanted)?;
+    match carry {
         Some(carry) => Ok(Some(write_carry(alloc, &carry)?)),
         None => Ok(None),
     }

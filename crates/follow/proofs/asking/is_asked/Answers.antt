@@ -53,7 +53,8 @@ returns-else-entry-line c =
     let at = c.entry-entry.ensures.value in
     let same = c.if-entry-line.false in
     let h : not (e.line == c.args.line) ≡ false = ap not (eq-eqb e.line c.args.line same) in
-    sym (one_on_line (is_audited c.args.known t.entries) c.args.line t.entries i e at
+    c.is_audited.ensures e at
+    ∙ sym (one_on_line (is_audited c.args.known t.entries) c.args.line t.entries i e at
     (others t c.len.ensures.rising c.args.line i e at (c.entries_before-i.ensures.behind i e at (omega arith))
     c.entries_before-i.ensures.before)
     ∙ ap (λ (b : Bool). b || is_audited c.args.known t.entries e) h)
