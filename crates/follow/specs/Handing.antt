@@ -8,7 +8,7 @@ use Rattle.monitor.specs.Standing.{open_entries}
 use Rattle.json_lines.specs.Reading.{line_count}
 use Rattle.carry.specs.Opening.{carry_at}
 use Rattle.carry.specs.Values.{CarryValue}
-use Rattle.runs.specs.Handed as handed
+use Rattle.runs.specs.Handed as by_runs
 use Rattle.runs.specs.Kept.{KeptValue, log_behind}
 use Rattle.audit.specs.Audit.{verdict_of}
 use Rattle.audit.specs.declared.plain.Verdict.{Verdict}
@@ -63,7 +63,7 @@ run_lines whole known begun t told = flat_map (unaudited_line known t.entries) (
 pub record IsHandedOn (known : Known) (lines : ℕ) (t : TraceValue) (bytes : List ℕ) : Type 0 where
   pub carry : CarryValue
   pub read : carry_at bytes ≡ Ok carry
-  pub of : handed.IsHandedOn known t carry
+  pub of : by_runs.IsHandedOn known t carry
   pub counted : carry.lines ≡ lines
 
 -- how a run ends whose follower took all lines of a log, which are so many
