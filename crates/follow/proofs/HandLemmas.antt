@@ -62,7 +62,7 @@ pub run_stopped : (k : KeptValue) (known : Known) (first : ℕ) (low : Known) �
 run_stopped k known first low is same trace one two e Lines run =
     stopped_alike (log_behind k) Lines (RunEnds k known) (IsSoFar (log_behind k) first low) (RunWentOut k known)
     (λ came old new h. went_on k known came old new (subst (λ (n : ℕ). IsSoFar (log_behind k) n known came old new) is
-    (subst (λ (b : ℕ). IsSoFar (log_behind k) first b came old new) same h)))
+    (subst (λ (b : Known). IsSoFar (log_behind k) first b came old new) same h)))
     trace (record { before = one; after = two }) e run
 
 module _ (k : KeptValue) (known : Known) (trace : Reading) (one two three : Writer) (f : Follower) (l : KeptValue) (v : IndexValue)
@@ -82,7 +82,7 @@ module _ (k : KeptValue) (known : Known) (trace : Reading) (one two three : Writ
 
   told : IsToldFrom says (k.lines + 1) known came (told_in lines.pieces)
   told = subst (λ (m : ℕ). IsToldFrom says m known came (told_in lines.pieces)) first
-      (subst (λ (b : ℕ). IsToldFrom says f.first b came (told_in lines.pieces)) low
+      (subst (λ (b : Known). IsToldFrom says f.first b came (told_in lines.pieces)) low
       (subst (IsToldFrom says f.first f.known came) lines.same (told_of_lines says came l.log f lines.said lines.followed)))
 
   beats : (u : TraceValue) → GoesOnAs says came u → AreTrue u lines.pieces []
@@ -136,7 +136,7 @@ module _ (k : KeptValue) (known : Known) (trace : Reading) (one two three : Writ
 
   last : (text : List ℕ) (end : RunEnd) → IsRunEnd l.log f begun counted text end
       → text ≡ run_lines end.whole known begun l.log (told_in lines.pieces)
-  last text end ends = ends.last ∙ ap (λ (b : ℕ). run_lines end.whole b begun l.log f.told.items) low
+  last text end ends = ends.last ∙ ap (λ (b : Known). run_lines end.whole b begun l.log f.told.items) low
       ∙ ap (λ (fs : List Finding). run_lines end.whole known begun l.log fs) lines.same
 
   nothing_more : three.taken ≡ two.taken → RunWentOut k known came one.taken three.taken
@@ -204,8 +204,8 @@ module _ (k : KeptValue) (known : Known) (trace : Reading) (one two three : Writ
                   ∙ append_assoc one.taken (text_of lines.pieces) text
                   ∙ ap (λ (t : List ℕ). one.taken ++ (text_of lines.pieces ++ t)) (last text end is);
               verdict = is.verdict ∙ ap verdict_of lines.same;
-              whole = is.whole ∙ ap (λ (b : ℕ). is_whole (is_some end.carry) b begun l.log) low;
-              carry = subst (λ (b : ℕ). IfSome end.carry (λ s. IsHandedOn b (k.lines + line_count came) l.log (string_bytes s))) low
+              whole = is.whole ∙ ap (λ (b : Known). is_whole (is_some end.carry) b begun l.log) low;
+              carry = subst (λ (b : Known). IfSome end.carry (λ s. IsHandedOn b (k.lines + line_count came) l.log (string_bytes s))) low
                   (subst (λ (m : ℕ). IfSome end.carry (λ s. IsHandedOn f.known m l.log (string_bytes s))) same_count is.carry);
             },
           ),

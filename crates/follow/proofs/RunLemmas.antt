@@ -282,7 +282,7 @@ module _ (says : Says) (s : KeptValue) (means : IsSaidBehind s says)
 
   told_here : IsToldFrom says first known used (told_in pieces)
   told_here = subst (λ (n : ℕ). IsToldFrom says n known used (told_in pieces)) from_now.0
-      (subst (λ (b : ℕ). IsToldFrom says g.first b used (told_in pieces)) from_now.1
+      (subst (λ (b : Known). IsToldFrom says g.first b used (told_in pieces)) from_now.1
       (subst (IsToldFrom says g.first g.known used) told_now (told_of_lines says used t g said tells.followed)))
 
   beat : (h : Heartbeat) → tells.piece.heartbeat ≡ Some h → Beats t g.told.items line h
