@@ -47,7 +47,7 @@ use Rattle.follow.proofs.RunLemmas.{failed_at_last, held_on, never_failed, stopp
 
 -- ---- what was told of a trace from its first line on
 
-told_of : (lines : List ℕ) (told : List Finding) → IsToldFrom trace_of 0 0 lines told → IsToldOf lines told
+told_of : (lines : List ℕ) (told : List Finding) → IsToldFrom trace_of 0 all_known lines told → IsToldOf lines told
 told_of lines told h = record {
   trace = h.trace;
   said = h.said;
@@ -57,7 +57,7 @@ told_of lines told h = record {
   is = h.is ∙ all_asked h.trace (told_between h.trace h.given 0 h.line) ∙ from_first h.trace h.given h.line;
 }
 
-pub went_whole : (came old new : List ℕ) → IsSoFar trace_of 0 0 came old new → WentOut came old new
+pub went_whole : (came old new : List ℕ) → IsSoFar trace_of 0 all_known came old new → WentOut came old new
 went_whole came old new h = record {
   pieces = h.pieces;
   ending = h.ending;
