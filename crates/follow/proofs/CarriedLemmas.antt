@@ -17,7 +17,7 @@ use Rattle.follow.specs.declared.carried.CarryRefusal.TheVariants as refusal
 use Rattle.follow.specs.declared.carried.RunFault.TheVariants as fault
 use Rattle.follow.specs.declared.handing.RunEnd.{RunEnd}
 
-module _ {V : Type 0} (begun : V → KeptValue × ℕ) (carry : Reading) (most : GivesFew carry) (known : GivesNext carry) where
+module _ {V : Type 0} (begun : V → KeptValue × Known) (carry : Reading) (most : GivesFew carry) (known : GivesNext carry) where
   pub read_failed : ReaderFailed carry → IsCarryRead begun carry (Err refusal.Read)
   read_failed failed = record {
     given = tt;
@@ -86,7 +86,7 @@ run_fault q e is = answered_alike q (Err e) is
 not_of_carry : {X : Type 0} (q : Result RunEnd AuditFault) (f : CarryRefusal) → answered q ≡ Err (fault.Carry f) → X
 not_of_carry q f is = no_answer f q (sym is)
 
-module _ {V : Type 0} (begun : V → KeptValue × ℕ) (carry trace : Reading) (out : Writing) where
+module _ {V : Type 0} (begun : V → KeptValue × Known) (carry trace : Reading) (out : Writing) where
   pub behind_refused : (f : CarryRefusal) → IsCarryRead begun carry (Err f) → trace.after ≡ trace.before
       → out.after ≡ out.before → RunsBehind carry trace out (Err (fault.Carry f))
   behind_refused f read untouched unsent = record {

@@ -6,7 +6,7 @@ use Rattle.token_order.proofs.Lines.{line_before}
 use Rattle.trace_lines.specs.EntryViews.{entry_value}
 use Rattle.trace_lines.specs.Values.{EntryValue, TraceValue, entry_lines}
 use Rattle.std.specs.List.Sorted.{IsStrictlyIncreasing}
-use Rattle.carry_laws.specs.Asked.{is_asked, is_audited}
+use Rattle.carry_laws.specs.Asked.{is_audited}
 use Rattle.carry_laws.proofs.AskLemmas.{none_on_line, one_on_line}
 use Rattle.follow.proofs.asking.is_asked.Goals as goal
 
