@@ -24,7 +24,7 @@ use Rattle.carry_laws.specs.Carried.{GoesOnAlike, StandsIn, placeless}
 use Rattle.carry_laws.specs.Together.{AreParts, IsPart, Part, StaysKnown}
 use Rattle.carry_laws.specs.Together as together
 use Rattle.carry_laws.proofs.AlikeLemmas.{audited_alike}
-use Rattle.carry_laws.proofs.AskLemmas.{audited_longer, audits_all}
+use Rattle.carry_laws.proofs.AskLemmas.{audited_from, audited_longer}
 use Rattle.carry_laws.proofs.HandedLemmas.{handed_on_law}
 use Rattle.carry_laws.proofs.OnwardLemmas.{onward}
 use Rattle.carry_laws.proofs.TogetherLemmas.{HaveSteps, steps_more}
@@ -41,6 +41,10 @@ use Rattle.follow.specs.Carried.{IsBegunBy}
 use Rattle.follow.specs.Handing.{IsHandedOn, unaudited}
 use Rattle.run_laws.specs.Runs.{AreBehind, BeginsWith, IsMadeIn, Ran, handed, known_at, log_from, more_lines, told_by, told_in}
 use Rattle.run_laws.proofs.GoesLemmas.{goes_twice}
+
+-- where all is known each entry is audited
+whole_audits : (es : List EntryValue) (e : EntryValue) → is_audited all_known es e ≡ true
+whole_audits es e = audited_from 0 es e ∙ le-leb 0 e.snapshot (omega arith)
 
 -- ---- a log, and what a run began behind it
 
@@ -217,7 +221,7 @@ module _ (k : KeptValue) (log : IsLog k) (from : ℕ) (r : Ran) (begun : IsBegun
   audited_there : (e d : EntryValue) → placeless d ≡ placeless e → is_audited r.known r.ends.trace.entries d ≡ true
       → is_audited r.known u.entries e ≡ true
   audited_there e d same is = elim begun.known [
-    | inl first ↦ ap (λ (c : Known). is_audited c u.entries e) first.0 ∙ audits_all u.entries e
+    | inl first ↦ ap (λ (c : Known). is_audited c u.entries e) first.0 ∙ whole_audits u.entries e
     | inr stands ↦
         audited_alike r.known stands.0 u r.ends.trace
         (onward r.known stands.0 k.log u r.behind.log r.ends.trace goes stands.2 stands.1 alike.1) e d same
@@ -306,7 +310,7 @@ parts_of k w from [] log begun h =
       told = refl;
       knows = λ l. refl;
       steps = tt;
-      asks = λ whole i e at later. audits_all w.log.entries e;
+      asks = λ whole i e at later. whole_audits w.log.entries e;
     }
 parts_of k w from (r ∷ rs) log begun h = by_read (λ next on begun h. parts_of next w r.known.versions rs on begun h) (log_behind k true r.bytes) refl h
   where
