@@ -1,7 +1,7 @@
 """A log that is followed in runs, each behind the carry of the one before, tells what the audit of the whole log finds.
 
-Each finding is told once, by the number of its line in the whole log; of an entry that asks below a carry's base it is told that it was not
-audited, and nothing else.
+Each finding is told once, by the number of its line in the whole log; of an entry that asks below a carry's base, or names a version that was
+let go, it is told that it was not audited, and nothing else.
 """
 import json
 import os
@@ -22,20 +22,22 @@ HISTORIES = int(os.environ.get("RANDOM_RUNS", "40"))
 SECONDS = 300
 SHORT = 10_000
 NUMBER = re.compile(rb'"(?:at|snapshot)" *: *([0-9]+)')
-UNAUDITED = re.compile(r"line ([0-9]+): not audited, below ([0-9]+)")
+UNAUDITED = re.compile(r"line ([0-9]+): not audited, (?:below [0-9]+|(its version was let go))")
 
 
 class Told(NamedTuple):
-    """What a run told: its findings, and the lines of the entries that were not audited."""
+    """What a run told: its findings, and the lines of the entries that were not audited, also of those whose version was let go."""
     findings: List[str]
     unaudited: Set[int]
+    unnamed: Set[int]
     status: int
 
 
 class Ended(NamedTuple):
-    """What the runs of a log found, by kind, how many entries they did not audit, and how many there were."""
+    """What the runs of a log found, by kind, how many entries they did not audit, for how many a version was let go, and how many there were."""
     kinds: Set[str]
     unaudited: int
+    unnamed: int
     runs: int
 
 
@@ -46,34 +48,39 @@ def line_of(finding: str) -> int:
 def told_by(out: str, status: int) -> Told:
     lines = out.splitlines()
     unaudited = {int(found[1]) for found in map(UNAUDITED.fullmatch, lines) if found}
+    unnamed = {int(found[1]) for found in map(UNAUDITED.fullmatch, lines) if found and found[2]}
     findings = [line for line in lines if line.startswith("line ") and not UNAUDITED.fullmatch(line)]
     assert "not audited %d" % len(unaudited) in lines, out
     assert status == (1 if findings else 6 if unaudited else 0), (status, out)
     assert lines[-1] == "verdict " + {0: "clean", 1: "dirty", 6: "incomplete"}[status], out
-    return Told(findings, unaudited, status)
+    return Told(findings, unaudited, unnamed, status)
 
 
 class InRuns(Case):
-    def follow(self, name: str, data: bytes, begun: Optional[str], carry: Optional[str], oldest: Optional[int] = None
-               ) -> "subprocess.CompletedProcess[str]":
+    def follow(self, name: str, data: bytes, begun: Optional[str], carry: Optional[str], oldest: Optional[int] = None,
+               versions: Optional[int] = None) -> "subprocess.CompletedProcess[str]":
         path = self.put(name, data)
         words = [PROGRAM, "follow", path]
         words += ["--from", self.path(begun)] if begun else []
         words += ["--carry", self.path(carry)] if carry else []
         words += ["--oldest-snapshot", str(oldest)] if carry and oldest is not None else []
+        words += ["--keep-versions", str(versions)] if carry and versions is not None else []
         return subprocess.run(words, stdout=subprocess.PIPE, stderr=subprocess.PIPE, universal_newlines=True, timeout=SECONDS)
 
-    def run_all(self, random: Random, lines: List[bytes], times: List[int]) -> Tuple[List[str], Set[int], int]:
-        """Follows the lines in runs that are cut at random, and gives all that was told, what was not audited, and how many runs ended."""
+    def run_all(self, random: Random, lines: List[bytes], times: List[int]) -> Tuple[List[str], Set[int], Set[int], int]:
+        """Follows the lines in runs that are cut at random, and gives all that was told, what was not audited, also for its version, and how many
+        runs ended."""
         cuts = sorted(random.sample(range(1, len(lines)), min(random.randint(0, 8), len(lines) - 1))) + [len(lines)]
         begun: Optional[str] = None
         begin, ended = 0, 0
         findings: List[str] = []
         unaudited: Set[int] = set()
+        unnamed: Set[int] = set()
         for number, cut in enumerate(cuts):
             carry = "carry%d" % number
             oldest = random.choice([None, 0, max(0, times[cut - 1] - random.randint(0, 12)), times[cut - 1]])
-            run = self.follow("trace%d" % number, b"".join(lines[begin:cut]), begun, carry, oldest)
+            versions = random.choice([None, None, 0, 1, 3])
+            run = self.follow("trace%d" % number, b"".join(lines[begin:cut]), begun, carry, oldest, versions)
             if run.returncode == 2 and run.stderr.startswith("no carry"):
                 # the next run repeats these lines, and what this one told is not taken
                 self.assertFalse(os.path.exists(self.path(carry)))
@@ -82,15 +89,16 @@ class InRuns(Case):
                 if not begun:
                     # nothing was handed on: the last run is the only one
                     run = self.follow("trace%d" % number, b"".join(lines), None, None)
-                    return [line for line in run.stdout.splitlines() if line.startswith("line ")], set(), 1
+                    return [line for line in run.stdout.splitlines() if line.startswith("line ")], set(), set(), 1
                 run = self.follow("trace%d" % number, b"".join(lines[begin:cut]), begun, None)
             self.assertIn(run.returncode, (0, 1, 6), run.stderr)
             told = told_by(run.stdout, run.returncode)
             findings += told.findings
             unaudited |= told.unaudited
+            unnamed |= told.unnamed
             begun, begin, ended = carry, cut, ended + 1
         self.assertIn("open 0\n", run.stdout)
-        return findings, unaudited, ended
+        return findings, unaudited, unnamed, ended
 
     def history(self, random: Random) -> Tuple[List[bytes], List[int]]:
         """The lines of a random log whose entries are all settled, and the newest timestamp up to each."""
@@ -112,13 +120,13 @@ class InRuns(Case):
         """Follows a log in runs, and compares what they told with what an audit finds."""
         for name in os.listdir(self.path("")):
             os.remove(self.path(name))
-        findings, unaudited, runs = self.run_all(random, lines, times)
+        findings, unaudited, unnamed, runs = self.run_all(random, lines, times)
         self.assertEqual(sorted(findings), sorted(line for line in wanted if line_of(line) not in unaudited))
-        return Ended({line.split(": ")[1].split(" ")[0] for line in findings}, len(unaudited), runs)
+        return Ended({line.split(": ")[1].split(" ")[0] for line in findings}, len(unaudited), len(unnamed), runs)
 
     def test_random_logs_in_runs(self) -> None:
         """Whatever the cuts and the bases: old snapshots, versions of earlier runs, rules that change, entries that wait."""
-        seen, left, runs = set(), 0, 0
+        seen, left, unnamed, runs = set(), 0, 0, 0
         for seed in range(HISTORIES):
             with self.subTest(seed=seed):
                 random = Random("runs %d" % seed)
@@ -127,8 +135,10 @@ class InRuns(Case):
                 assert wanted is not None
                 ended = self.compare(random, lines, times, wanted)
                 seen, left, runs = seen | ended.kinds, left + ended.unaudited, runs + ended.runs
+                unnamed += ended.unnamed
         self.assertGreaterEqual(seen, {"F1", "F2", "F3", "F4", "F5", "F6", "F10"})
         self.assertGreater(left, 0)
+        self.assertGreater(unnamed, 0)
         self.assertGreater(runs, HISTORIES)
 
     def test_worked_cases_in_runs(self) -> None:

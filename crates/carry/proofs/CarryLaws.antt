@@ -29,8 +29,8 @@ use Rattle.carry.specs.declared.value.CheckKind.{CheckKind}
 use Rattle.carry.specs.declared.value.CheckKind.TheVariants.{Check, Content}
 use Rattle.carry.specs.Fields.{IfThere, Reader, both, number_line, number_to, seen, text_at, text_line, word_at, word_or, behind, after_word}
 use Rattle.carry.specs.Values.{CarryValue, CheckValue, ItemValue, SaidValue, declares, commits, records}
-use Rattle.carry.specs.Texts.{IsCheck, IsInForm, IsItem, IsSaid, body_text, check_text, commit_text, fact_line, item_text, tuple_line, zookie_line}
-use Rattle.carry.specs.Reading.{CarryFields, CheckFields, CommitFields, body_at, carry_of, check_fields_at, check_of, checked_at, commit_fields_at, commit_of, committed_at, declared_at, fact_in, fact_line_at, item_at, item_of, spelled_so, tuple_in, tuple_line_at, whole_body, zookie_in, zookie_line_at}
+use Rattle.carry.specs.Texts.{IsCheck, IsInForm, IsItem, IsSaid, body_text, check_text, commit_text, fact_line, item_text, known_text, tuple_line, zookie_line}
+use Rattle.carry.specs.Reading.{CarryFields, CheckFields, CommitFields, body_at, carry_of, check_fields_at, check_of, checked_at, commit_fields_at, commit_of, committed_at, declared_at, fact_in, fact_line_at, item_at, item_of, known_at, spelled_so, tuple_in, tuple_line_at, whole_body, zookie_in, zookie_line_at}
 use Rattle.carry.proofs.FieldLaws.{IsField, at_takes, bind_ok, flag_is, guard_ok, listed, number_is, of_text_is, ok_is, pair, perhaps, text_is, word_or_ok, word_takes, worded}
 
 -- ---- tuples and facts are short
@@ -283,21 +283,25 @@ item_field = record { takes = item_takes; again = item_again }
 -- ---- the body
 
 abbrev BodyFits : CarryFields → Type 0
-BodyFits p = (p.0 < 2 ^ 64) × ((p.1.0 < 2 ^ 64) × (IfThere (λ t. length t < 2 ^ 64) p.1.1.0 × ((length p.1.1.1 < 2 ^ 64) × AllByRecursion IsItem p.1.1.1)))
+BodyFits p = (p.0 < 2 ^ 64) × (((p.1.0.0 < 2 ^ 64) × (p.1.0.1 < 2 ^ 64)) × (IfThere (λ t. length t < 2 ^ 64) p.1.1.0 × ((length p.1.1.1 < 2 ^ 64) × AllByRecursion IsItem p.1.1.1)))
+
+known_field : IsField (λ (p : ℕ × ℕ). known_text p.0 p.1) known_at (λ p. (p.0 < 2 ^ 64) × (p.1 < 2 ^ 64))
+unfolding known_at
+known_field = pair (worded (codes "base ") (number_is 10 refl)) (worded (codes "versions ") (number_is 10 refl))
 
 body_field : IsField (λ p. body_text (carry_of p)) body_at BodyFits
 unfolding body_at
 body_field =
     pair (worded (codes "lines ") (number_is 10 refl))
-    (pair (worded (codes "base ") (number_is 10 refl))
+    (pair known_field
     (pair (perhaps (codes "no carry before\n") (codes "before ") (λ rest. refl) text_is)
     (worded (codes "items ") (listed item_field))))
 
 abbrev pub carry_fields : CarryValue → CarryFields
-carry_fields c = (c.lines, (c.base, (c.before, c.items)))
+carry_fields c = (c.lines, ((c.base, c.versions), (c.before, c.items)))
 
 fits_body : (c : CarryValue) → IsInForm c → BodyFits (carry_fields c)
-fits_body c h = (h.lines, (h.base, (h.before, h.items)))
+fits_body c h = (h.lines, ((h.base, h.versions), (h.before, h.items)))
 
 pub body_again : (c : CarryValue) (rest : List ℕ) → IsInForm c → body_at (body_text c ++ rest) ≡ Ok (carry_fields c, rest)
 body_again c rest h = body_field.again (carry_fields c) rest (fits_body c h)
@@ -312,7 +316,7 @@ whole_takes text c e =
     let t = body_field.takes text a.0.0 a.0.1 a.1 in
     let done = ended (length a.0.1) (Left (length a.0.1)) (carry_of a.0.0) c a.2 in
     let whole : text ≡ body_text (carry_of a.0.0) = t.0 ∙ ap (λ (r : List ℕ). body_text (carry_of a.0.0) ++ r) (nil_from_length a.0.1 done.0) ∙ append-nil (body_text (carry_of a.0.0)) in
-    subst (λ (y : CarryValue). (text ≡ body_text y) × IsInForm y) done.1 (whole, record { lines = t.1.0; base = t.1.1.0; before = t.1.1.1.0; items = t.1.1.1.1 })
+    subst (λ (y : CarryValue). (text ≡ body_text y) × IsInForm y) done.1 (whole, record { lines = t.1.0; base = t.1.1.0.0; versions = t.1.1.0.1; before = t.1.1.1.0; items = t.1.1.1.1 })
 
 pub whole_again : (c : CarryValue) → IsInForm c → whole_body (body_text c) ≡ Ok c
 unfolding whole_body

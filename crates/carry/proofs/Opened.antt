@@ -185,7 +185,7 @@ no_front c d rest hc hd e =
     pair_is x = cc x
 
     carry_of_fields : CarryFields → CarryValue
-    carry_of_fields p = record { lines = p.0; base = p.1.0; before = p.1.1.0; items = p.1.1.1 }
+    carry_of_fields p = record { lines = p.0; base = p.1.0.0; versions = p.1.0.1; before = p.1.1.0; items = p.1.1.1 }
 
 -- ---- what functions answered
 

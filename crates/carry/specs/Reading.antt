@@ -98,15 +98,24 @@ item_at text =
 -- ---- a carry
 
 abbrev pub CarryFields : Type 0
-CarryFields = ℕ × (ℕ × (Option (List ℕ) × List ItemValue))
+CarryFields = ℕ × ((ℕ × ℕ) × (Option (List ℕ) × List ItemValue))
 
 abbrev pub carry_of : CarryFields → CarryValue
-carry_of p = record { lines = p.0; base = p.1.0; before = p.1.1.0; items = p.1.1.1 }
+carry_of p = record {
+  lines = p.0;
+  base = p.1.0.0;
+  versions = p.1.0.1;
+  before = p.1.1.0;
+  items = p.1.1.1;
+}
+
+unfoldable pub known_at : Reader (ℕ × ℕ)
+known_at text = both (behind (codes "base ") (number_to 10)) (behind (codes "versions ") (number_to 10)) text
 
 unfoldable pub body_at : Reader CarryFields
 body_at text =
     both (behind (codes "lines ") (number_to 10))
-    (both (behind (codes "base ") (number_to 10))
+    (both known_at
     (both (optional_at (codes "no carry before\n") (codes "before ") text_at)
     (behind (codes "items ") (counted_at item_at)))) text
 

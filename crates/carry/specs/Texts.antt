@@ -55,11 +55,15 @@ said_text (records e) = check_text e
 abbrev pub item_text : ItemValue → List ℕ
 item_text i = head_word i.said ++ (number_line i.line ++ said_text i.said)
 
+-- from where on the log is known: a line for the base, and one for the line of the first version
+abbrev pub known_text : ℕ → ℕ → List ℕ
+known_text base versions = (codes "base " ++ number_line base) ++ (codes "versions " ++ number_line versions)
+
 -- what stands between the first line and the last
 abbrev pub body_text : CarryValue → List ℕ
 body_text c =
     (codes "lines " ++ number_line c.lines)
-    ++ ((codes "base " ++ number_line c.base)
+    ++ (known_text c.base c.versions
     ++ (optional_text (codes "no carry before\n") (codes "before ") text_line c.before
     ++ (codes "items " ++ counted_text item_text c.items)))
 
@@ -102,6 +106,7 @@ IsItem i = (i.line < 2 ^ 64) × IsSaid i.said
 pub record IsInForm (c : CarryValue) : Type 0 where
   pub lines : c.lines < 2 ^ 64
   pub base : c.base < 2 ^ 64
+  pub versions : c.versions < 2 ^ 64
   pub before : IfThere (λ t. length t < 2 ^ 64) c.before
   pub items : (length c.items < 2 ^ 64) × AllByRecursion IsItem c.items
 

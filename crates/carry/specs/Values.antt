@@ -33,10 +33,12 @@ pub record ItemValue : Type 0 where
   pub line : ℕ
   pub said : SaidValue
 
--- how many lines came before, the base timestamp, what tells the carry before from others, and the lines that go on
+-- how many lines came before, the base timestamp, the line from which on versions are carried, what tells the carry
+-- before from others, and the lines that go on
 pub record CarryValue : Type 0 where
   pub lines : ℕ
   pub base : ℕ
+  pub versions : ℕ
   pub before : Option (List ℕ)
   pub items : List ItemValue
 
@@ -68,6 +70,7 @@ abbrev pub carry_value : Carry → CarryValue
 carry_value c = record {
   lines = c.lines;
   base = c.base;
+  versions = c.versions;
   before = option_map (λ s. s.now) c.before;
   items = item_values c.items.items;
 }

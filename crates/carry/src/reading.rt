@@ -5,7 +5,7 @@ ghost use Rattle.tuple_text.specs.FactRefs.{fact_value};
 ghost use Rattle.tuple_text.specs.TupleRefs.{tuple_value, tuple_values};
 ghost use Rattle.carry.specs.Faults.{Gives, Tells};
 ghost use Rattle.carry.specs.Fields.{behind, both, counted_at, number_to, optional_at, repeated, seen, text_at};
-ghost use Rattle.carry.specs.Reading.{carry_of, check_of, checked_at, commit_of, commit_fields_at, committed_at, declared_at, fact_line_at, item_at, check_fields_at, body_at, tuple_line_at, whole_body, zookie_line_at};
+ghost use Rattle.carry.specs.Reading.{carry_of, check_of, checked_at, commit_of, commit_fields_at, committed_at, declared_at, fact_line_at, item_at, known_at, check_fields_at, body_at, tuple_line_at, whole_body, zookie_line_at};
 ghost use Rattle.carry.specs.Values.{carry_value, check_value, commit_value, item_value, item_values};
 
 use crate::fault::FieldFault;
@@ -236,13 +236,23 @@ fn items_of<'a>(
     Ok((items, rest))
 }
 
+/// From where on the log is known: the base, and the line of the first version.
+#[tactic(auto, unfolding(crate::specs::Reading::known_at))]
+fn known_at(text: &str) -> Result<((u64, u64), &str), FieldFault>
+    ensures { Tells (λ x. (x.0, x.1.now)) result (known_at text.now) }
+{
+    let (base, rest) = number_behind(text, "base ")?;
+    let (versions, rest) = number_behind(rest, "versions ")?;
+    Ok(((base, versions), rest))
+}
+
 /// All fields of a carry, behind its first line.
 #[tactic(auto, unfolding(crate::specs::Reading::body_at))]
 fn body_at(alloc: Global, text: &str) -> Result<(Carry<'_>, &str), FieldFault>
     ensures { Gives (λ x. (carry_value x.0, x.1.now)) result (seen carry_of body_at text.now) }
 {
     let (lines, rest) = number_behind(text, "lines ")?;
-    let (base, rest) = number_behind(rest, "base ")?;
+    let ((base, versions), rest) = known_at(rest)?;
     let (before, rest) = perhaps_text(rest, "no carry before\n", "before ")?;
     let (count, rest) = number_behind(rest, "items ")?;
     match items_of(alloc, count, rest) {
@@ -250,6 +260,7 @@ fn body_at(alloc: Global, text: &str) -> Result<(Carry<'_>, &str), FieldFault>
             let carry = Carry {
                 lines,
                 base,
+                versions,
                 before,
                 items,
             };

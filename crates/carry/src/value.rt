@@ -65,6 +65,8 @@ pub struct Carry<'a> {
     pub lines: u64,
     /// The timestamp at which the store is carried.
     pub base: u64,
+    /// The line of the whole log from which on the versions that it issued are carried: from line 0 on all are.
+    pub versions: u64,
     /// What tells the carry before from others, where there is one.
     pub before: Option<&'a str>,
     pub items: Vec<Item<'a>>,

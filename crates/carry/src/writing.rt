@@ -7,7 +7,7 @@ ghost use Rattle.tuple_text.specs.Grammar.{IsFact, IsTuple, fact_text, tuple_tex
 ghost use Rattle.tuple_text.specs.TupleRefs.{tuple_value, tuple_values};
 ghost use Rattle.zookie.specs.Tokens.{front, token_text};
 ghost use Rattle.carry.specs.Fields.{IfThere, counted_text, flag_text, number_line, optional_text, text_line};
-ghost use Rattle.carry.specs.Texts.{IsCheck, IsCommit, IsInForm, IsItem, IsSaid, body_text, check_text, commit_text, fact_line, head_word, item_text, said_text, tuple_line, zookie_line};
+ghost use Rattle.carry.specs.Texts.{IsCheck, IsCommit, IsInForm, IsItem, IsSaid, body_text, check_text, commit_text, fact_line, head_word, item_text, known_text, said_text, tuple_line, zookie_line};
 ghost use Rattle.carry.specs.Values.{carry_value, check_value, commit_value, item_value, item_values, said_value};
 
 use crate::value::{CarriedCheck, CarriedCommit, Carry, CheckKind, Item, Said};
@@ -232,6 +232,16 @@ fn push_items(items: &[Item<'_>], out: &mut String) -> Result<(), AllocError>
     Ok(())
 }
 
+/// Appends from where on the log is known.
+fn push_known(base: u64, versions: u64, out: &mut String) -> Result<(), AllocError>
+    ensures { OnOk result (string_bytes out.new ≡ string_bytes out.old ++ known_text base versions) }
+{
+    out.push_str("base ")?;
+    push_number(base, out)?;
+    out.push_str("versions ")?;
+    push_number(versions, out)
+}
+
 /// Appends what stands between the first line and the last.
 pub(crate) fn push_body(carry: &Carry<'_>, out: &mut String) -> Result<(), AllocError>
     ensures text { OnOk result (string_bytes out.new ≡ string_bytes out.old ++ body_text (carry_value carry.now)) }
@@ -239,8 +249,7 @@ pub(crate) fn push_body(carry: &Carry<'_>, out: &mut String) -> Result<(), Alloc
 {
     out.push_str("lines ")?;
     push_number(carry.lines, out)?;
-    out.push_str("base ")?;
-    push_number(carry.base, out)?;
+    push_known(carry.base, carry.versions, out)?;
     push_perhaps_text(carry.before, "no carry before\n", "before ", out)?;
     out.push_str("items ")?;
     push_items(&carry.items, out)

@@ -25,7 +25,8 @@ use Rattle.windows.proofs.GrownLemmas.{behind}
 use Rattle.follow_laws.specs.Begun.{Begins}
 use Rattle.follow_laws.specs.Told.{moments, at_moments, told_from, is_at, told_on, left_over}
 use Rattle.carry_laws.specs.Carried.{GoesOnAlike, HaveSameSteps, StandsIn, asked_left, asked_on, placeless}
-use Rattle.carry_laws.specs.Asked.{Known, asked, is_asked, is_audited, issues_between, knows_version}
+use Rattle.carry_laws.specs.Asked.{asked, is_asked, is_audited, issues_between, knows_version}
+use Rattle.carry_laws.specs.declared.known.Known.{Known}
 use Rattle.carry_laws.proofs.AskLemmas.{all_above_asked, asked_by_entry, filter_alike}
 use Rattle.carry_laws.proofs.OnwardLemmas.{dropped, onward}
 use Rattle.follow_laws.proofs.OnceLemmas.{own_line}
@@ -60,13 +61,13 @@ any_faced q same (x ∷ xs) =
     ap (λ (b : Bool). b || list_any q (map placeless xs)) (same x) ∙ ap (λ (b : Bool). q x || b) (any_faced q same xs)
 
 -- where one passes it has a place
-record Passes (q : EntryValue → Bool) (xs : List EntryValue) : Type 0 where
+pub record Passes (q : EntryValue → Bool) (xs : List EntryValue) : Type 0 where
   pub place : ℕ
   pub entry : EntryValue
   pub there : slice_get xs place ≡ Some entry
   pub passes : q entry ≡ true
 
-one_passes : (q : EntryValue → Bool) (xs : List EntryValue) → list_any q xs ≡ true → Passes q xs
+pub one_passes : (q : EntryValue → Bool) (xs : List EntryValue) → list_any q xs ≡ true → Passes q xs
 one_passes q [] any = absurd (let no : false ≡ true = any in cc)
 one_passes q (x ∷ xs) any = by_test (one_passes q xs) (q x) refl any
   where
@@ -77,29 +78,33 @@ one_passes q (x ∷ xs) any = by_test (one_passes q xs) (q x) refl any
         record { place = suc r.place; entry = r.entry; there = r.there; passes = r.passes }
 
 -- what passes issued the version, from that line on
-issued_from : (from line : ℕ) (v : Version) (x : EntryValue) → issues_between from line v x ≡ true
+pub issued_from : (from line : ℕ) (v : Version) (x : EntryValue) → issues_between from line v x ≡ true
     → (from ≤ x.line) × (issues v x ≡ true)
 issued_from from line v x is =
     let parts = and_parts (leb from x.line) (ltb x.line line && issues v x) is in
     (leb-true from x.line parts.0, (and_parts (ltb x.line line) (issues v x) parts.1).1)
 
 module _ (known : Known) (p : ℕ) (u y : TraceValue) (z : StandsIn known p u y) where
-  knows_alike : (line : ℕ) (o : Option Version)
-      → knows_version known.versions u.entries line o ≡ knows_version known.versions y.entries line o
-  knows_alike line None = refl
-  knows_alike line (Some v) = ap (λ (b : Bool). (known.versions == 0) || b) (
-      sym (any_kept q z.keep (λ x is. let i = issued_from known.versions line v x is in z.keeps.issuers v x i.1 i.0) u.entries)
+  -- of versions that were issued from that line on, or from a further one, both know the same
+  pub knows_alike : (from : ℕ) → known.versions ≤ from → (line : ℕ) (o : Option Version)
+      → knows_version from u.entries line o ≡ knows_version from y.entries line o
+  knows_alike from later line None = refl
+  knows_alike from later line (Some v) = ap (λ (b : Bool). (from == 0) || b) (
+      sym (any_kept q z.keep (λ x is.
+      let i = issued_from from line v x is in
+      let low = i.0 in
+      z.keeps.issuers v x i.1 (omega (arith, low, later))) u.entries)
       ∙ sym (any_faced q (λ x. refl) (filter z.keep u.entries))
       ∙ ap (list_any q) (sym z.entries)
       ∙ any_faced q (λ x. refl) y.entries)
     where
       q : EntryValue → Bool
-      q x = issues_between known.versions line v x
+      q x = issues_between from line v x
 
   -- a copy of an entry is audited where that is
   pub audited_alike : (e d : EntryValue) → placeless d ≡ placeless e → is_audited known u.entries e ≡ is_audited known y.entries d
   audited_alike e d copied =
-      ap (λ (b : Bool). leb known.base e.snapshot && b) (knows_alike e.line (version_named e.kind (entry_version e)))
+      ap (λ (b : Bool). leb known.base e.snapshot && b) (knows_alike known.versions (omega arith) e.line (version_named e.kind (entry_version e)))
       ∙ sym (ap (is_audited known y.entries) copied)
 
   -- who issued a known version is kept

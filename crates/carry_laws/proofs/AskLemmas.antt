@@ -16,7 +16,8 @@ use Rattle.findings.specs.declared.finding.Finding.{Finding}
 use Rattle.findings.specs.declared.finding.What.{What}
 use Rattle.windows.specs.Growth.{GoesOn}
 use Rattle.follow_laws.specs.Told.{at_moments, moments, told_from}
-use Rattle.carry_laws.specs.Asked.{Known, all_known, asked, is_asked, is_audited, issues_between, known_from, knows_named, knows_version}
+use Rattle.carry_laws.specs.Asked.{all_known, asked, is_asked, is_audited, issues_between, known_from, knows_named, knows_version}
+use Rattle.carry_laws.specs.declared.known.Known.{Known}
 
 -- ---- the lines of findings
 
@@ -190,8 +191,8 @@ asks_all t line = all_pass (is_audited all_known t.entries) line t.entries (each
 pub all_asked : (t : TraceValue) (fs : List Finding) → asked all_known t fs ≡ fs
 all_asked t = filter_all (λ (f : Finding). is_asked all_known t f.line) (λ f. asks_all t f.line)
 
-pub asked_of_base : (base : ℕ) → base ≡ 0 → (t : TraceValue) (fs : List Finding) → asked (known_from base) t fs ≡ fs
-asked_of_base base none t fs = ap (λ (b : ℕ). asked (known_from b) t fs) none ∙ all_asked t fs
+pub asked_of_all : (known : Known) → known ≡ all_known → (t : TraceValue) (fs : List Finding) → asked known t fs ≡ fs
+asked_of_all known is t fs = ap (λ (k : Known). asked k t fs) is ∙ all_asked t fs
 
 weaker : (k line : ℕ) → line < k + 1 → (es : List EntryValue) → AllByRecursion (λ e. k < e.line) es
     → AllByRecursion (λ e. line < e.line) es

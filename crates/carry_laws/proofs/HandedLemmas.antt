@@ -14,7 +14,7 @@ use Rattle.windows.specs.Growth.{HasRisingLines, is_settled}
 use Rattle.windows.proofs.CompactionLemmas.{IsUpTo}
 use Rattle.windows.proofs.CutLemmas as cut
 use Rattle.windows.proofs.WindowLemmas.{every, filter_mapped}
-use Rattle.carry_laws.specs.Asked.{Known}
+use Rattle.carry_laws.specs.declared.known.Known.{Known}
 use Rattle.carry_laws.specs.Carried.{StandsIn, has_commit_at, lines_above, placeless}
 use Rattle.carry_laws.proofs.ReachLemmas.{any_weaker}
 use Rattle.carry_laws.proofs.StandInLemmas.{bound, first_lines, first_up_to, lines_are, rest_lines, weaker, window, within_bound}
@@ -129,6 +129,18 @@ reached_back known p u y s m any =
         ))) u.commits s.base
     by_front false is any = any_filtered (λ (d : Commit). ltb known.base d.at) reaches u.commits (sym (ap (λ (z : Bool). z || list_any
         reaches (above known.base u.commits)) is) ∙ any)
+
+-- so a copy of an entry that is not settled is not settled
+pub waits_too : (known : Known) (p : ℕ) (u y : TraceValue) → StandsIn known p u y → (e d : EntryValue)
+    → placeless d ≡ placeless e → is_settled u e ≡ false → is_settled y d ≡ false
+waits_too known p u y s e d same unset = by_test (is_settled y d) refl
+  where
+    by_test : (z : Bool) → is_settled y d ≡ z → is_settled y d ≡ false
+    by_test false is = is
+    by_test true is =
+        let yes : is_settled u e ≡ true = reached_back known p u y s e.snapshot (ap (λ (f : EntryValue). list_any (λ (k : Commit). leb
+        f.snapshot k.at) y.commits) (sym same) ∙ is) in
+        let wrong : false ≡ true = sym unset ∙ yes in absurd cc
 
 -- ---- two in turn
 
@@ -271,19 +283,12 @@ module _ (known further : Known) (p q : ℕ) (u y x : TraceValue) (of_u : HasRis
       ∙ ap (option_map placeless) among.1
       )
     where
-      unsettled : (d : EntryValue) → placeless d ≡ placeless e → (z : Bool) → is_settled y d ≡ z → is_settled y d ≡ false
-      unsettled d same false is = is
-      unsettled d same true is =
-          let yes : is_settled u e ≡ true = reached_back known p u y s e.snapshot (ap (λ (f : EntryValue). list_any (λ (k : Commit). leb
-          f.snapshot k.at) y.commits) (sym same) ∙ is) in
-          let wrong : false ≡ true = sym unset ∙ yes in absurd cc
-
       by_entry : (s.keep e ≡ true) × (p ≤ e.line) → (j : ℕ) → (o : Option EntryValue) → slice_get y.entries j ≡ o
           → option_map placeless o ≡ Some (placeless e) → (keep e ≡ true) × (last ≤ e.line)
       by_entry kept j None there same = absurd (let wrong : None ≡ Some (placeless e) = same in cc)
       by_entry kept j (Some d) there same =
           let copied : placeless d ≡ placeless e = cc in
-          let there_kept = r.keeps.unsettled j d there (unsettled d copied (is_settled y d) refl) in
+          let there_kept = r.keeps.unsettled j d there (waits_too known p u y s e d copied unset) in
           let line = ap (λ (f : EntryValue). f.line) copied in
           let behind_p = kept.1 in
           let behind_q = there_kept.1 in (

@@ -5,6 +5,7 @@ pub mod OnwardLemmas
 pub mod PartLemmas
 pub mod ReachLemmas
 pub mod SilentLemmas
+pub mod SteadyLemmas
 pub mod StandInLemmas
 pub mod StepLemmas
 pub mod TogetherLemmas

@@ -22,7 +22,7 @@ use Rattle.windows.proofs.WindowLemmas.{by_times}
 use Rattle.follow_laws.specs.Begun.{Begins}
 use Rattle.follow_laws.proofs.OnceLemmas.{below_last}
 use Rattle.follow_laws.proofs.StaysLemmas.{lines_from}
-use Rattle.carry_laws.specs.Asked.{Known}
+use Rattle.carry_laws.specs.declared.known.Known.{Known}
 use Rattle.carry_laws.specs.Carried.{GoesOnAlike, StandsIn, has_commit_at, lines_above, placeless}
 use Rattle.carry_laws.proofs.ReachLemmas.{any_weaker}
 use Rattle.carry_laws.proofs.StandInLemmas.{kept_all, weaker}

@@ -23,7 +23,7 @@ use Rattle.windows.proofs.NearestLemmas.{lines_in_time}
 use Rattle.windows.proofs.WholeLemmas.{same_found, whole_up_to}
 use Rattle.windows.proofs.WindowLemmas.{by_lines, by_times, found_law, open_there}
 use Rattle.follow_laws.specs.Told.{line_reaching, settling_line, moments, at_moments}
-use Rattle.carry_laws.specs.Asked.{Known}
+use Rattle.carry_laws.specs.declared.known.Known.{Known}
 use Rattle.carry_laws.specs.Carried.{StandsIn, has_commit_at, lines_above}
 use Rattle.carry_laws.proofs.ReachLemmas.{any_on_lines, any_weaker, reached_above, reached_before, reaching_above, reaching_behind}
 

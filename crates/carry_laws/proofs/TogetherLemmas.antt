@@ -21,7 +21,8 @@ use Rattle.follow_laws.proofs.FirstLemmas.{first_law, itself_law}
 use Rattle.follow_laws.proofs.OnceLemmas.{once_among, settling_within, own_line}
 use Rattle.follow_laws.proofs.StaysLemmas.{stays_law}
 use Rattle.follow_laws.proofs.ThroughLemmas.{first_entry, reaching}
-use Rattle.carry_laws.specs.Asked.{Known, asked, is_asked, is_audited, knows_named}
+use Rattle.carry_laws.specs.Asked.{asked, is_asked, is_audited, knows_named}
+use Rattle.carry_laws.specs.declared.known.Known.{Known}
 use Rattle.carry_laws.specs.Carried.{StandsIn, has_commit_at, placeless}
 use Rattle.carry_laws.specs.Together.{AreParts, HadSteps, IsPart, Part, known_at, on_audited, told_in, told_in_all}
 use Rattle.carry_laws.proofs.AskLemmas.{asked_by_entry, filter_alike, knows_all, knows_longer, line_asked_longer, one_by_line, told_before_line}

@@ -4,14 +4,9 @@ use Rattle.std.specs.List.{list_all, list_any}
 use Rattle.trace_lines.specs.Values.{EntryValue, TraceValue}
 use Rattle.trace_lines.specs.Versions.{Version, entry_version, issues, version_named}
 use Rattle.findings.specs.declared.finding.Finding.{Finding}
+use Rattle.carry_laws.specs.declared.known.Known.{Known}
 
--- What is stored is known at a base and above it, and of versions those that were issued from a line on: from line 0 on
--- these are all.
-pub record Known : Type 0 where
-  pub base : ℕ
-  pub versions : ℕ
-
--- with all versions, and with all that a log has
+-- from a base on with all versions, and all that a log has
 abbrev pub known_from : ℕ → Known
 known_from base = record { base = base; versions = 0 }
 

@@ -9,7 +9,8 @@ use Rattle.evidence_check.specs.Evidences.{steps_of}
 use Rattle.evidence_check.specs.Steps.{StepValue}
 use Rattle.findings.specs.declared.finding.Finding.{Finding}
 use Rattle.follow_laws.specs.Told.{left_over, told_on}
-use Rattle.carry_laws.specs.Asked.{Known, asked}
+use Rattle.carry_laws.specs.Asked.{asked}
+use Rattle.carry_laws.specs.declared.known.Known.{Known}
 use Rattle.windows.specs.Compaction.{StandsFor, above}
 use Rattle.windows.specs.Growth.{GoesOn, is_settled}
 use Rattle.windows.specs.Windows.{face}

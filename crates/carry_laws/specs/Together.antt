@@ -7,7 +7,8 @@ use Rattle.findings.specs.declared.finding.Finding.{Finding}
 use Rattle.windows.specs.Growth.{is_settled}
 use Rattle.follow_laws.specs.Begun.{Begins}
 use Rattle.follow_laws.specs.Told.{told_between}
-use Rattle.carry_laws.specs.Asked.{Known, all_known, asked, is_asked, knows_named}
+use Rattle.carry_laws.specs.Asked.{all_known, asked, is_asked, knows_named}
+use Rattle.carry_laws.specs.declared.known.Known.{Known}
 use Rattle.carry_laws.specs.Carried.{GoesOnAlike, StandsIn, placeless}
 
 -- A run of a log: up to which line it goes, and what the log says up to there; what it knows of the log in front of it,

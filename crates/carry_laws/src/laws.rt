@@ -8,7 +8,8 @@ ghost use Rattle.findings.specs.Findings.{findings_of};
 ghost use Rattle.windows.specs.Growth.{HasRisingLines, IsSettled};
 ghost use Rattle.follow_laws.specs.Begun.{Begins, IsOfBytes};
 ghost use Rattle.follow_laws.specs.Told.{told_on, left_over};
-ghost use Rattle.carry_laws.specs.Asked.{Known, is_audited};
+ghost use Rattle.carry_laws.specs.Asked.{is_audited};
+ghost use Rattle.carry_laws.specs.declared.known.Known.{Known};
 ghost use Rattle.carry_laws.specs.Carried.{GoesOnAlike, HaveSameSteps, StandsIn, asked_left, asked_on, placeless};
 ghost use Rattle.carry_laws.specs.Together.{AreParts, HadSteps, Part, on_audited, told_in_all};
 

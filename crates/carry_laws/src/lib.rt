@@ -9,11 +9,14 @@
 //! is what the whole log lets tell there ([`laws::told_alike`]). What stands in for a trace that stands in for a log
 //! stands in for the log, too ([`laws::handed_on`]).
 //!
-//! The crate computes nothing: each law is what a function ensures that does nothing. A caller cites a law so:
+//! Beside [`Known`] the crate has laws alone: each is what a function ensures that does nothing. A caller cites a law so:
 //!
 //! ```text
 //! told_alike();
 //! ```
 #![tactic(auto)]
 
+mod known;
 pub mod laws;
+
+pub use known::Known;

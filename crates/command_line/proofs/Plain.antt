@@ -182,12 +182,13 @@ pub follow_is : (t : Text) → is_plain_word t ≡ true → subcommand_of progra
 unfolding clap_on_literals
 follow_is t p = ap (λ (w : Walk). Some (codes "follow", finished (sub 3).rules w.held)) (step (sub 3) 1 t nothing_held p)
 
-pub follow_found : (t : Text) → IsFollowFound (follow_rows t) t None None None false
+pub follow_found : (t : Text) → IsFollowFound (follow_rows t) t None None None None false
 follow_found t = record {
   trace = refl;
   from_given = refl;
   carry_given = refl;
   oldest_given = refl;
+  versions_given = refl;
   heartbeat_given = refl;
   fits = λ given. absurd cc;
 }
@@ -203,12 +204,13 @@ pub input_is : subcommand_of program (codes "follow" ∷ []) ≡ Some (codes "fo
 unfolding clap_on_literals
 input_is = refl
 
-pub input_found : IsFollowFound input_rows (codes "/dev/stdin") None None None false
+pub input_found : IsFollowFound input_rows (codes "/dev/stdin") None None None None false
 input_found = record {
   trace = refl;
   from_given = refl;
   carry_given = refl;
   oldest_given = refl;
+  versions_given = refl;
   heartbeat_given = refl;
   fits = λ given. absurd cc;
 }

@@ -30,16 +30,16 @@ pub asked_whole : (found : Option (Text × List Row)) (o : Option Asked)
     → IsAuditFound rows t e w n early → o ≡ Some (audits t e w n early))
     → ((rows : List Row) (t : Text) (list : Bool) → found ≡ Some (codes "make", rows) → IsMakeFound rows t list → o ≡ Some (makes t list))
     → ((rows : List Row) (t u : Text) → found ≡ Some (codes "history", rows) → IsHistoryFound rows t u → o ≡ Some (tells t u))
-    → ((rows : List Row) (t : Text) (from carry : Option Text) (oldest : Option ℕ) (heartbeat : Bool)
-    → found ≡ Some (codes "follow", rows) → IsFollowFound rows t from carry oldest heartbeat
-    → o ≡ Some (follows t from carry oldest heartbeat))
+    → ((rows : List Row) (t : Text) (from carry : Option Text) (oldest versions : Option ℕ) (heartbeat : Bool)
+    → found ≡ Some (codes "follow", rows) → IsFollowFound rows t from carry oldest versions heartbeat
+    → o ≡ Some (follows t from carry oldest versions heartbeat))
     → (a : Asked) → IsWholeIn found a → o ≡ Some a
 asked_whole found o audit make history follow joined whole = absurd whole
 asked_whole found o audit make history follow (audits t e w n early) whole = audit whole.0 t e w n early whole.1 whole.2
 asked_whole found o audit make history follow (makes t list) whole = make whole.0 t list whole.1 whole.2
 asked_whole found o audit make history follow (tells t u) whole = history whole.0 t u whole.1 whole.2
-asked_whole found o audit make history follow (follows t from carry oldest heartbeat) whole =
-    follow whole.0 t from carry oldest heartbeat whole.1 whole.2
+asked_whole found o audit make history follow (follows t from carry oldest versions heartbeat) whole =
+    follow whole.0 t from carry oldest versions heartbeat whole.1 whole.2
 
 -- an error of help has a kind that the words may bring about
 pub shown_asked : (kinds : Kinds) (e : Error) (a : Answer) → HasKind kinds e → ¬ (kind_of e ≡ OutOfMemory)

@@ -1,5 +1,5 @@
 -- What a request asks for, and the words that are no option.
-use Rattle.std.specs.Prelude.{◌≡◌, ◌<◌, ◌^◌, ◌⊎◌, ℕ, Bool, true, false, not, List, [], ◌∷◌, ◌==◌, Option, Some, None, option_map, codes, is_some, if◌then◌else◌}
+use Rattle.std.specs.Prelude.{◌≡◌, ◌<◌, ◌^◌, ◌⊎◌, ℕ, Bool, true, false, not, List, [], ◌∷◌, ◌==◌, ◌||◌, Option, Some, None, option_map, codes, is_some, if◌then◌else◌}
 use Rattle.std.specs.Str.Parse.{IsNumeral, digits_value, without_leading_plus}
 use Rattle.clap.specs.Walk.{Row, Text, first_of, one_of}
 use Rattle.clap.specs.Simple.{subcommand_of}
@@ -22,7 +22,7 @@ pub data Asked : Type 0 where
   audits : Text → Option Text → ℕ → ℕ → Bool → Asked
   makes : Text → Bool → Asked
   tells : Text → Text → Asked
-  follows : Text → Option Text → Option Text → Option ℕ → Bool → Asked
+  follows : Text → Option Text → Option Text → Option ℕ → Option ℕ → Bool → Asked
 
 abbrev pub asked_by : Request → Asked
 asked_by request.Joined = joined
@@ -30,8 +30,8 @@ asked_by (request.Audit trace evidence workers slice early) =
     audits trace.now (option_map (λ e. e.now) evidence) workers slice early
 asked_by (request.Make trace list) = makes trace.now list
 asked_by (request.History trace tuple) = tells trace.now tuple.now
-asked_by (request.Follow trace from carry oldest heartbeat) =
-    follows trace.now (option_map (λ s. s.now) from) (option_map (λ s. s.now) carry) oldest heartbeat
+asked_by (request.Follow trace from carry oldest versions heartbeat) =
+    follows trace.now (option_map (λ s. s.now) from) (option_map (λ s. s.now) carry) oldest versions heartbeat
 
 abbrev pub asked_in : Answer → Option Asked
 asked_in (answer.Asks r) = Some (asked_by r)
@@ -43,7 +43,7 @@ command_of joined = None
 command_of (audits _ _ _ _ _) = Some (codes "audit")
 command_of (makes _ _) = Some (codes "make")
 command_of (tells _ _) = Some (codes "history")
-command_of (follows _ _ _ _ _) = Some (codes "follow")
+command_of (follows _ _ _ _ _ _) = Some (codes "follow")
 
 -- the number that the text of an argument writes
 pub record IsNumberIn (rows : List Row) (id : Text) (n : ℕ) : Type 0 where
@@ -84,15 +84,16 @@ pub record IsHistoryFound (rows : List Row) (t u : Text) : Type 0 where
   pub trace : first_of (codes "TRACE") rows ≡ Some t
   pub tuple : first_of (codes "TUPLE") rows ≡ Some u
 
--- a whole request to follow: a timestamp is given only where a carry is asked for
-pub record IsFollowFound (rows : List Row) (t : Text) (from carry : Option Text) (oldest : Option ℕ) (heartbeat : Bool)
-    : Type 0 where
+-- a whole request to follow: a timestamp, and how many versions, are given only where a carry is asked for
+pub record IsFollowFound (rows : List Row) (t : Text) (from carry : Option Text) (oldest versions : Option ℕ)
+    (heartbeat : Bool) : Type 0 where
   pub trace : first_of (codes "TRACE") rows ≡ Some t
   pub from_given : first_of (codes "from") rows ≡ from
   pub carry_given : first_of (codes "carry") rows ≡ carry
   pub oldest_given : GivesOption rows (codes "oldest-snapshot") oldest
+  pub versions_given : GivesOption rows (codes "keep-versions") versions
   pub heartbeat_given : GivesFlag rows (codes "heartbeat") heartbeat
-  pub fits : is_some oldest ≡ true → is_some carry ≡ true
+  pub fits : (is_some oldest || is_some versions) ≡ true → is_some carry ≡ true
 
 -- the text of a flag does not say the other thing
 abbrev pub IsFlagIn : List Row → Text → Bool → Type 0
@@ -112,9 +113,10 @@ IsFoundIn rows (audits t e workers slice early) =
     × IsFlagIn rows (codes "early") early
 IsFoundIn rows (makes t list) = (first_of (codes "TRACE") rows ≡ Some t) × IsFlagIn rows (codes "list") list
 IsFoundIn rows (tells t u) = (first_of (codes "TRACE") rows ≡ Some t) × (first_of (codes "TUPLE") rows ≡ Some u)
-IsFoundIn rows (follows t from carry oldest heartbeat) =
+IsFoundIn rows (follows t from carry oldest versions heartbeat) =
     (first_of (codes "TRACE") rows ≡ Some t) × (first_of (codes "from") rows ≡ from)
     × (first_of (codes "carry") rows ≡ carry) × IsOptionIn rows (codes "oldest-snapshot") oldest
+    × IsOptionIn rows (codes "keep-versions") versions
     × IsFlagIn rows (codes "heartbeat") heartbeat
 
 -- and that stands behind the command's name
@@ -140,8 +142,8 @@ IsWholeIn found (audits t e workers slice early) =
     (rows : List Row) × (found ≡ Some (codes "audit", rows)) × IsAuditFound rows t e workers slice early
 IsWholeIn found (makes t list) = (rows : List Row) × (found ≡ Some (codes "make", rows)) × IsMakeFound rows t list
 IsWholeIn found (tells t u) = (rows : List Row) × (found ≡ Some (codes "history", rows)) × IsHistoryFound rows t u
-IsWholeIn found (follows t from carry oldest heartbeat) =
-    (rows : List Row) × (found ≡ Some (codes "follow", rows)) × IsFollowFound rows t from carry oldest heartbeat
+IsWholeIn found (follows t from carry oldest versions heartbeat) =
+    (rows : List Row) × (found ≡ Some (codes "follow", rows)) × IsFollowFound rows t from carry oldest versions heartbeat
 
 -- the words write a whole request
 abbrev pub Write : List Text → Asked → Type 0

@@ -198,8 +198,21 @@ fn oldest<'a>(alloc: Global) -> Arg<'a>
         )
 }
 
-fn follow<'a>(alloc: Global, oldest: Arg<'a>) -> Result<Command<'a>, AllocError>
+fn versions<'a>(alloc: Global) -> Arg<'a>
+    ensures { spec.IsArg (spec.optional_number (codes "keep-versions")) result }
+{
+    Arg::new(alloc, "keep-versions")
+        .long("keep-versions")
+        .value_name("N")
+        .value_parser(value_parser!(u64))
+        .help(
+            "The carry keeps the content versions that were issued last, N of them, and those that waiting entries name",
+        )
+}
+
+fn follow<'a>(alloc: Global, oldest: Arg<'a>, versions: Arg<'a>) -> Result<Command<'a>, AllocError>
     ensures { spec.IsArg (spec.optional_number (codes "oldest-snapshot")) oldest.entry
+        → spec.IsArg (spec.optional_number (codes "keep-versions")) versions.entry
         → IfOk result (spec.IsCommand spec.follow) }
 {
     let heartbeat = flag(
@@ -217,12 +230,12 @@ fn follow<'a>(alloc: Global, oldest: Arg<'a>) -> Result<Command<'a>, AllocError>
         "carry",
         "Write a carry to this file, which must not exist: the next run begins with it",
     );
-    let args = vec![in alloc; followed(alloc), heartbeat, from, carry, oldest]?;
+    let args = vec![in alloc; followed(alloc), heartbeat, from, carry, oldest, versions]?;
     command(
         alloc,
         "follow",
         "Audits a trace as it comes, by evidence that it makes, and tells each finding as soon as nothing can change it",
-        "Examples: tail -n +1 -F trace.jsonl | new_enemy follow --heartbeat\n          new_enemy follow monday.jsonl --carry monday.carry\n          new_enemy follow tuesday.jsonl --from monday.carry --carry tuesday.carry --oldest-snapshot 90000\n\nThe lines are those of the report of audit --make, in the order in which they can be told. At the end of the\ninput come those that are left, the two counts and the verdict. A run with --from or --carry tells what its\nlines let tell: an entry that waits for a commit goes on in the carry. One that asks below the carry's store is\nnot audited, and is told so.\nExit status: 0 clean, 1 dirty, 2 the trace or the carry is refused, 3 the words are, 4 out of memory,\n5 a file can't be opened or a device failed, 6 nothing was found, and not all was audited. With 2 to 5 there is\nno verdict; what was told before stands.",
+        "Examples: tail -n +1 -F trace.jsonl | new_enemy follow --heartbeat\n          new_enemy follow monday.jsonl --carry monday.carry\n          new_enemy follow tuesday.jsonl --from monday.carry --carry tuesday.carry --oldest-snapshot 90000\n\nThe lines are those of the report of audit --make, in the order in which they can be told. At the end of the\ninput come those that are left, the two counts and the verdict. A run with --from or --carry tells what its\nlines let tell: an entry that waits for a commit goes on in the carry. One that asks below the carry's store, or\nnames a version that was let go, is not audited, and is told so.\nExit status: 0 clean, 1 dirty, 2 the trace or the carry is refused, 3 the words are, 4 out of memory,\n5 a file can't be opened or a device failed, 6 nothing was found, and not all was audited. With 2 to 5 there is\nno verdict; what was told before stands.",
         args,
     )
 }
@@ -264,7 +277,7 @@ pub(crate) fn program<'a>(alloc: Global) -> Result<Command<'a>, AllocError>
     ensures { IfOk result (spec.IsCommand spec.program) }
 {
     let audit = audit(alloc, evidence(alloc), making(alloc))?;
-    let follow = follow(alloc, oldest(alloc))?;
+    let follow = follow(alloc, oldest(alloc), versions(alloc))?;
     with_commands(alloc, audit, follow)
 }
 
@@ -281,6 +294,10 @@ fn strict_making<'a>(alloc: Global) -> Result<Arg<'a>, AllocError> {
 /// The same with the rules between arguments, for the texts of what is refused.
 pub(crate) fn strict<'a>(alloc: Global) -> Result<Command<'a>, AllocError> {
     let audit = audit(alloc, needed_evidence(alloc)?, strict_making(alloc)?)?;
-    let follow = follow(alloc, oldest(alloc).requires_arg("carry")?)?;
+    let follow = follow(
+        alloc,
+        oldest(alloc).requires_arg("carry")?,
+        versions(alloc).requires_arg("carry")?,
+    )?;
     with_commands(alloc, audit, follow)
 }

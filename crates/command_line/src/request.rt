@@ -39,12 +39,13 @@ pub enum Request<'a> {
     },
     /// The audit of the trace of a file as it comes, by evidence that is made; with heartbeats where they are asked for.
     /// It goes on behind the log of the carry in the file `from`, and hands on a carry in the file `carry`, whose base
-    /// moves up to the timestamp `oldest`.
+    /// moves up to the timestamp `oldest`, and which has so many `versions` of content, or all.
     Follow {
         trace: &'a str,
         from: Option<&'a str>,
         carry: Option<&'a str>,
         oldest: Option<u64>,
+        versions: Option<u64>,
         heartbeat: bool,
     },
 }
@@ -178,17 +179,18 @@ fn history_of<'a>(matches: &ArgMatches<'a>) -> Option<Request<'a>>
 }
 
 fn follow_of<'a>(matches: &ArgMatches<'a>) -> Option<Request<'a>>
-    ensures asked { (t : Text) (from carry : Option Text) (oldest : Option ℕ) (heartbeat : Bool)
-        → IsFollowFound (rows_of (found_of matches.now)) t from carry oldest heartbeat
-        → option_map asked_by result ≡ Some (follows t from carry oldest heartbeat) }
+    ensures asked { (t : Text) (from carry : Option Text) (oldest versions : Option ℕ) (heartbeat : Bool)
+        → IsFollowFound (rows_of (found_of matches.now)) t from carry oldest versions heartbeat
+        → option_map asked_by result ≡ Some (follows t from carry oldest versions heartbeat) }
     ensures named { IfSome result (λ r. command_of (asked_by r) ≡ Some (codes "follow")) }
     ensures given { IfSome result (λ r. IsFoundIn (rows_of (found_of matches.now)) (asked_by r)) }
 {
     let from = text(matches, "from");
     let carry = text(matches, "carry");
     let oldest = number(matches, "oldest-snapshot");
+    let versions = number(matches, "keep-versions");
     let heartbeat = has(matches, "heartbeat");
-    if oldest.is_some() && carry.is_none() {
+    if (oldest.is_some() || versions.is_some()) && carry.is_none() {
         return None;
     }
     match text(matches, "TRACE") {
@@ -198,6 +200,7 @@ fn follow_of<'a>(matches: &ArgMatches<'a>) -> Option<Request<'a>>
                 from,
                 carry,
                 oldest,
+                versions,
                 heartbeat,
             })
         }
@@ -215,10 +218,10 @@ fn request_of<'a>(matches: &ArgMatches<'a>) -> Option<Request<'a>>
     ensures history { (rows : List Row) (t u : Text)
         → subcommand_rows_of matches.now ≡ Some (codes "history", rows) → IsHistoryFound rows t u
         → option_map asked_by result ≡ Some (tells t u) }
-    ensures follow { (rows : List Row) (t : Text) (from carry : Option Text) (oldest : Option ℕ) (heartbeat : Bool)
+    ensures follow { (rows : List Row) (t : Text) (from carry : Option Text) (oldest versions : Option ℕ) (heartbeat : Bool)
         → subcommand_rows_of matches.now ≡ Some (codes "follow", rows)
-        → IsFollowFound rows t from carry oldest heartbeat
-        → option_map asked_by result ≡ Some (follows t from carry oldest heartbeat) }
+        → IsFollowFound rows t from carry oldest versions heartbeat
+        → option_map asked_by result ≡ Some (follows t from carry oldest versions heartbeat) }
     ensures named { IfSome result
         (λ r. option_map (λ p. p.0) (subcommand_rows_of matches.now) ≡ command_of (asked_by r)) }
     ensures some { IfSome result (λ r. is_some (command_of (asked_by r)) ≡ true) }
@@ -273,8 +276,8 @@ fn told_as<'a>(error: &Error, text: String) -> Answer<'a>
 ///
 /// Without words joined input is asked for. Words that name no command, lack one of its words, have one too many,
 /// repeat an option or give it no number below 2^64 are refused, and so is an audit with both evidence and `--make`, or
-/// with neither, or of `--make` with `--early`, and `--oldest-snapshot` without `--carry`. Help and the version are shown
-/// where they are asked for.
+/// with neither, or of `--make` with `--early`, and `--oldest-snapshot` or `--keep-versions` without `--carry`. Help and the
+/// version are shown where they are asked for.
 pub fn read_words<'a>(alloc: Global, words: &'a [String]) -> Result<Answer<'a>, AllocError>
     ensures joined { IfOk result (λ a. a ≡ Asks Joined → words.now ≡ []) }
     ensures none { words.now ≡ [] → result ≡ Ok (Asks Joined) }
@@ -300,9 +303,9 @@ pub fn read_words<'a>(alloc: Global, words: &'a [String]) -> Result<Answer<'a>, 
         → is_plain_word t ≡ true → is_plain_word u ≡ true
         → IfOk result (λ a. asked_in a ≡ Some (tells t u)) }
     ensures follow { (t : Text) → map string_bytes words.now ≡ codes "follow" ∷ t ∷ [] → is_plain_word t ≡ true
-        → IfOk result (λ a. asked_in a ≡ Some (follows t None None None false)) }
+        → IfOk result (λ a. asked_in a ≡ Some (follows t None None None None false)) }
     ensures follow_input { map string_bytes words.now ≡ codes "follow" ∷ []
-        → IfOk result (λ a. asked_in a ≡ Some (follows (codes "/dev/stdin") None None None false)) }
+        → IfOk result (λ a. asked_in a ≡ Some (follows (codes "/dev/stdin") None None None None false)) }
 {
     if words.is_empty() {
         return Ok(Answer::Asks(Request::Joined));

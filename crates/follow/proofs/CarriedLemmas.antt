@@ -8,6 +8,7 @@ use Rattle.audit.specs.Devices.{Reader, Reading, Writing, OfBytes, OfInput, OfWh
 use Rattle.audit.specs.Kinds.{IsOneOf}
 use Rattle.audit.specs.Kinds as kind
 use Rattle.audit.specs.declared.plain.AuditFault.{AuditFault}
+use Rattle.carry_laws.specs.declared.known.Known.{Known}
 use Rattle.follow.specs.Carried.{IsBegunBy, IsCarryRead, Refuses, RunsBehind, answered}
 use Rattle.follow.specs.Handing.{RunEnds, RunWentOut}
 use Rattle.follow.specs.Running.{Run}
@@ -16,7 +17,7 @@ use Rattle.follow.specs.declared.carried.CarryRefusal.TheVariants as refusal
 use Rattle.follow.specs.declared.carried.RunFault.TheVariants as fault
 use Rattle.follow.specs.declared.handing.RunEnd.{RunEnd}
 
-module _ {V : Type 0} (begun : V → KeptValue × ℕ) (carry : Reading) (most : GivesFew carry) (known : GivesNext carry) where
+module _ {V : Type 0} (begun : V → KeptValue × Known) (carry : Reading) (most : GivesFew carry) (known : GivesNext carry) where
   pub read_failed : ReaderFailed carry → IsCarryRead begun carry (Err refusal.Read)
   read_failed failed = record {
     given = tt;
@@ -85,7 +86,7 @@ run_fault q e is = answered_alike q (Err e) is
 not_of_carry : {X : Type 0} (q : Result RunEnd AuditFault) (f : CarryRefusal) → answered q ≡ Err (fault.Carry f) → X
 not_of_carry q f is = no_answer f q (sym is)
 
-module _ {V : Type 0} (begun : V → KeptValue × ℕ) (carry trace : Reading) (out : Writing) where
+module _ {V : Type 0} (begun : V → KeptValue × Known) (carry trace : Reading) (out : Writing) where
   pub behind_refused : (f : CarryRefusal) → IsCarryRead begun carry (Err f) → trace.after ≡ trace.before
       → out.after ≡ out.before → RunsBehind carry trace out (Err (fault.Carry f))
   behind_refused f read untouched unsent = record {
@@ -107,7 +108,7 @@ module _ {V : Type 0} (begun : V → KeptValue × ℕ) (carry trace : Reading) (
     run = λ r is.
         of_whole-map (λ (s : Reader). s.given) (λ (s : Reader). s.ends) carry.before carry.after
         (λ b. IsBegunBy b (begun v).0 (begun v).1)
-        (λ b. (k : KeptValue) × (base : ℕ) × IsBegunBy b k base × Run (log_behind k) (RunEnds k base) (RunWentOut k base) trace out r)
+        (λ b. (k : KeptValue) × (known : Known) × IsBegunBy b k known × Run (log_behind k) (RunEnds k known) (RunWentOut k known) trace out r)
         (λ b so. (
           (begun v).0,
           (begun v).1,

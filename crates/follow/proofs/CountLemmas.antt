@@ -1,17 +1,17 @@
--- How many entries ask below a base, as they are counted.
-use Rattle.std.proofs.Common.{◌≡◌, ◌+◌, ℕ, List, true, false, Some, ap, arith, drop, length}
-use Rattle.std.specs.Prelude.{filter, nat_lt, slice_get}
+-- How many entries are not audited, as they are counted.
+use Rattle.std.proofs.Common.{◌≡◌, ◌+◌, ℕ, Bool, List, true, false, Some, ap, arith, drop, length}
+use Rattle.std.specs.Prelude.{filter, slice_get}
 use Rattle.trace_lines.specs.Values.{EntryValue}
 use Rattle.runs.proofs.WalkLemmas.{kept_at, passed_at}
 
-module _ (base : ℕ) (es : List EntryValue) (i : ℕ) (e : EntryValue) (at : slice_get es i ≡ Some e) (count n : ℕ)
-    (counted : count + length (filter (λ e. nat_lt e.snapshot base) (drop i es)) ≡ n) where
-  pub counted_one : nat_lt e.snapshot base ≡ true → (count + 1) + length (filter (λ e. nat_lt e.snapshot base) (drop (i + 1) es)) ≡ n
-  counted_one below =
-      let more = ap (λ (xs : List EntryValue). length xs) (kept_at (λ e. nat_lt e.snapshot base) es i e at below) in
+module _ (test : EntryValue → Bool) (es : List EntryValue) (i : ℕ) (e : EntryValue) (at : slice_get es i ≡ Some e) (count n : ℕ)
+    (counted : count + length (filter test (drop i es)) ≡ n) where
+  pub counted_one : test e ≡ true → (count + 1) + length (filter test (drop (i + 1) es)) ≡ n
+  counted_one passes =
+      let more = ap (λ (xs : List EntryValue). length xs) (kept_at test es i e at passes) in
       omega (arith, more, counted)
 
-  pub counted_none : nat_lt e.snapshot base ≡ false → count + length (filter (λ e. nat_lt e.snapshot base) (drop (i + 1) es)) ≡ n
-  counted_none above =
-      let same = ap (λ (xs : List EntryValue). length xs) (passed_at (λ e. nat_lt e.snapshot base) es i e at above) in
+  pub counted_none : test e ≡ false → count + length (filter test (drop (i + 1) es)) ≡ n
+  counted_none fails =
+      let same = ap (λ (xs : List EntryValue). length xs) (passed_at test es i e at fails) in
       omega (arith, same, counted)

@@ -19,9 +19,10 @@ use Rattle.monitor.specs.Standing.{IsAtEnd, Stands}
 use Rattle.monitor.specs.declared.monitor.Monitor.{Monitor}
 use Rattle.monitor.proofs.RunLemmas.{none_between, to_last}
 use Rattle.audit.specs.Made.{IsMade}
+use Rattle.carry_laws.specs.declared.known.Known.{Known}
 use Rattle.follow.specs.Heartbeats.{AreSettledTo, IsThrough}
 use Rattle.follow.specs.SoFar.{IsFollowed, TellsFromSame}
-use Rattle.carry_laws.specs.Asked.{asked, is_asked, known_from}
+use Rattle.carry_laws.specs.Asked.{asked, is_asked}
 use Rattle.follow.specs.declared.follower.Follower.{Follower}
 
 -- an entry more is settled
@@ -93,7 +94,7 @@ told_behind t placed good m ended first low =
 -- further lines were taken, and of what was found there what is asked was told
 pub further_followed : (t : TraceValue) (f g : Follower) → IsFollowed t f → (found : List Finding)
     → TellsMore IsMade t f.monitor g.monitor [] found → Stands t g.monitor → TellsFromSame f g → g.settled ≡ f.settled
-    → g.told.items ≡ f.told.items ++ asked (known_from f.base) t found → IsFollowed t g
+    → g.told.items ≡ f.told.items ++ asked f.known t found → IsFollowed t g
 further_followed t f g followed found more stands same settled told = record {
   stands = stands;
   all = followed.all ++ more.more;
@@ -101,10 +102,10 @@ further_followed t f g followed found more stands same settled told = record {
       (more.told f.first [] followed.all followed.told);
   asked_alone =
       told
-      ∙ ap (λ (fs : List Finding). fs ++ asked (known_from f.base) t found) followed.asked_alone
-      ∙ ap (λ (fs : List Finding). asked (known_from f.base) t followed.all ++ asked (known_from f.base) t fs) more.behind
-      ∙ sym (filter-append (λ (x : Finding). is_asked (known_from f.base) t x.line) followed.all more.more)
-      ∙ ap (λ (b : ℕ). asked (known_from b) t (followed.all ++ more.more)) (sym same.1);
+      ∙ ap (λ (fs : List Finding). fs ++ asked f.known t found) followed.asked_alone
+      ∙ ap (λ (fs : List Finding). asked f.known t followed.all ++ asked f.known t fs) more.behind
+      ∙ sym (filter-append (λ (x : Finding). is_asked f.known t x.line) followed.all more.more)
+      ∙ ap (λ (b : Known). asked b t (followed.all ++ more.more)) (sym same.1);
   within = let le = followed.within in omega (arith, le, settled);
   settled = λ i e at lt. followed.settled i e at (omega (arith, lt, settled));
 }

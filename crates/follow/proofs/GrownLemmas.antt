@@ -23,7 +23,7 @@ use Rattle.findings.specs.declared.finding.Finding.{Finding}
 use Rattle.audit.specs.Made.{IsMade}
 use Rattle.follow.specs.Reading.{IsKeptSoFar, IsSaidBehind}
 use Rattle.follow.specs.SoFar.{IsFollowed}
-use Rattle.carry_laws.specs.Asked.{asked, known_from}
+use Rattle.carry_laws.specs.Asked.{asked}
 use Rattle.follow.specs.Told.{IsToldFrom}
 use Rattle.audit.specs.Audit.{Says}
 use Rattle.follow.specs.declared.follower.Follower.{Follower}
@@ -66,14 +66,14 @@ said_lines given ends failures remaining first now start k r so_far =
 -- ---- what was told of them
 
 pub told_of_lines : (says : Says) (lines : List ℕ) (t : TraceValue) (f : Follower) → says true lines ≡ Ok t → IsFollowed t f
-    → IsToldFrom says f.first f.base lines f.told.items
+    → IsToldFrom says f.first f.known lines f.told.items
 told_of_lines says lines t f said followed = record {
   trace = t;
   said = said;
   given = followed.told.given;
   line = followed.told.line;
   made = followed.told.allowed;
-  is = followed.asked_alone ∙ ap (λ (fs : List Finding). asked (known_from f.base) t fs) followed.told.told;
+  is = followed.asked_alone ∙ ap (λ (fs : List Finding). asked f.known t fs) followed.told.told;
 }
 
 -- ---- a longer log
@@ -98,7 +98,7 @@ followed_longer {k} t u goes here there good better f low followed ended = recor
   all = followed.all;
   told = told_of_longer t u b here there f.monitor ended IsMade (λ i e at settled steps made. made_still t u b i e at settled
       steps made) f.first [] followed.all followed.told low;
-  asked_alone = followed.asked_alone ∙ sym (asked_longer (known_from f.base) t u goes followed.all
+  asked_alone = followed.asked_alone ∙ sym (asked_longer f.known t u goes followed.all
       (subst (All (λ (x : Finding). x.line < k + 1)) (sym followed.told.told)
       (told_within (k + 1) t below followed.told.given f.first followed.told.line)));
   within = let n = length-append t.entries goes.entries in

@@ -10,7 +10,7 @@ use Rattle.follow_laws.specs.Told.{told_between}
 use Rattle.follow_laws.proofs.OnceLemmas.{own_line}
 use Rattle.std.proofs.lemmas.Bool.{cases_lt}
 use Rattle.std.proofs.lemmas.Option.{slice_get_within}
-use Rattle.carry_laws.specs.Asked.{asked, known_from}
+use Rattle.carry_laws.specs.Asked.{asked}
 use Rattle.monitor.specs.SoFar.{AreAllowedBetween, IsTold, IsUpTo}
 use Rattle.monitor.proofs.GrowthLemmas.{below_last}
 use Rattle.monitor.proofs.RunLemmas.{quiet, settled_apart}
@@ -23,6 +23,7 @@ use Rattle.audit.specs.Parts.{Told}
 use Rattle.audit.specs.Audit.{Says}
 use Rattle.audit.specs.declared.plain.AuditFault.{AuditFault}
 use Rattle.audit.specs.declared.plain.AuditFault.TheVariants as faults
+use Rattle.carry_laws.specs.declared.known.Known.{Known}
 use Rattle.follow.specs.Handing.{IsHandedOn, IsRunEnd, RunEnds, RunWentOut, is_whole, run_lines}
 use Rattle.follow.specs.Heartbeats.{AreTrue}
 use Rattle.follow.specs.Pieces.{text_of, told_in}
@@ -36,9 +37,9 @@ use Rattle.follow.proofs.GrownLemmas.{told_of_lines}
 use Rattle.follow.proofs.RunLemmas.{failed_at_last, held_on, never_failed, stopped, stopped_alike, IsFine}
 
 -- what went out of the lines alone went out of the run
-pub went_on : (k : KeptValue) (base : ℕ) (came old new : List ℕ) → IsSoFar (log_behind k) (k.lines + 1) base came old new
-    → RunWentOut k base came old new
-went_on k base came old new h = record {
+pub went_on : (k : KeptValue) (known : Known) (came old new : List ℕ) → IsSoFar (log_behind k) (k.lines + 1) known came old new
+    → RunWentOut k known came old new
+went_on k known came old new h = record {
   pieces = h.pieces;
   ending = h.ending;
   bytes = h.bytes;
@@ -54,18 +55,18 @@ went_on k base came old new h = record {
   ];
 }
 
-pub run_stopped : (k : KeptValue) (base : ℕ) (first low : ℕ) → first ≡ k.lines + 1 → low ≡ base → (trace : Reading)
+pub run_stopped : (k : KeptValue) (known : Known) (first : ℕ) (low : Known) → first ≡ k.lines + 1 → low ≡ known → (trace : Reading)
     (one two : Writer) (e : AuditFault) → {V : Type 0} (Lines : List ℕ → List ℕ → List ℕ → V → Type 0)
     → Run (log_behind k) Lines (IsSoFar (log_behind k) first low) trace (record { before = one; after = two }) (Err e)
-    → Run (log_behind k) (RunEnds k base) (RunWentOut k base) trace (record { before = one; after = two }) (Err e)
-run_stopped k base first low is same trace one two e Lines run =
-    stopped_alike (log_behind k) Lines (RunEnds k base) (IsSoFar (log_behind k) first low) (RunWentOut k base)
-    (λ came old new h. went_on k base came old new (subst (λ (n : ℕ). IsSoFar (log_behind k) n base came old new) is
-    (subst (λ (b : ℕ). IsSoFar (log_behind k) first b came old new) same h)))
+    → Run (log_behind k) (RunEnds k known) (RunWentOut k known) trace (record { before = one; after = two }) (Err e)
+run_stopped k known first low is same trace one two e Lines run =
+    stopped_alike (log_behind k) Lines (RunEnds k known) (IsSoFar (log_behind k) first low) (RunWentOut k known)
+    (λ came old new h. went_on k known came old new (subst (λ (n : ℕ). IsSoFar (log_behind k) n known came old new) is
+    (subst (λ (b : Known). IsSoFar (log_behind k) first b came old new) same h)))
     trace (record { before = one; after = two }) e run
 
-module _ (k : KeptValue) (base : ℕ) (trace : Reading) (one two three : Writer) (f : Follower) (l : KeptValue) (v : IndexValue)
-    (n : ℕ) (fits : next_line k.log ≤ k.lines + 1) (first : f.first ≡ k.lines + 1) (low : f.base ≡ base) {Stands : List ℕ → List ℕ → List ℕ → Type 0}
+module _ (k : KeptValue) (known : Known) (trace : Reading) (one two three : Writer) (f : Follower) (l : KeptValue) (v : IndexValue)
+    (n : ℕ) (fits : next_line k.log ≤ k.lines + 1) (first : f.first ≡ k.lines + 1) (low : f.known ≡ known) {Stands : List ℕ → List ℕ → List ℕ → Type 0}
     (run : Run (log_behind k) (TellsLines (log_behind k) f) Stands trace (record { before = one; after = two }) (Ok (l, v, n))) where
   abbrev says : Says
   says = log_behind k
@@ -79,10 +80,10 @@ module _ (k : KeptValue) (base : ℕ) (trace : Reading) (one two three : Writer)
   fine : IsFine trace
   fine = record { most = run.most; known = run.known; kept = run.kept.0 }
 
-  told : IsToldFrom says (k.lines + 1) base came (told_in lines.pieces)
-  told = subst (λ (m : ℕ). IsToldFrom says m base came (told_in lines.pieces)) first
-      (subst (λ (b : ℕ). IsToldFrom says f.first b came (told_in lines.pieces)) low
-      (subst (IsToldFrom says f.first f.base came) lines.same (told_of_lines says came l.log f lines.said lines.followed)))
+  told : IsToldFrom says (k.lines + 1) known came (told_in lines.pieces)
+  told = subst (λ (m : ℕ). IsToldFrom says m known came (told_in lines.pieces)) first
+      (subst (λ (b : Known). IsToldFrom says f.first b came (told_in lines.pieces)) low
+      (subst (IsToldFrom says f.first f.known came) lines.same (told_of_lines says came l.log f lines.said lines.followed)))
 
   beats : (u : TraceValue) → GoesOnAs says came u → AreTrue u lines.pieces []
   beats u goes = are_true_so_far u lines.pieces (lines.longer u goes) lines.silent
@@ -134,11 +135,11 @@ module _ (k : KeptValue) (base : ℕ) (trace : Reading) (one two three : Writer)
   )
 
   last : (text : List ℕ) (end : RunEnd) → IsRunEnd l.log f begun counted text end
-      → text ≡ run_lines end.whole base begun l.log (told_in lines.pieces)
-  last text end ends = ends.last ∙ ap (λ (b : ℕ). run_lines end.whole b begun l.log f.told.items) low
-      ∙ ap (λ (fs : List Finding). run_lines end.whole base begun l.log fs) lines.same
+      → text ≡ run_lines end.whole known begun l.log (told_in lines.pieces)
+  last text end ends = ends.last ∙ ap (λ (b : Known). run_lines end.whole b begun l.log f.told.items) low
+      ∙ ap (λ (fs : List Finding). run_lines end.whole known begun l.log fs) lines.same
 
-  nothing_more : three.taken ≡ two.taken → RunWentOut k base came one.taken three.taken
+  nothing_more : three.taken ≡ two.taken → RunWentOut k known came one.taken three.taken
   nothing_more same = record {
     pieces = lines.pieces;
     ending = [];
@@ -153,7 +154,7 @@ module _ (k : KeptValue) (base : ℕ) (trace : Reading) (one two three : Writer)
   }
 
   part_more : (text : List ℕ) (end : RunEnd) → IsRunEnd l.log f begun counted text end → (bytes : ℕ)
-      → three.taken ≡ two.taken ++ take bytes text → RunWentOut k base came one.taken three.taken
+      → three.taken ≡ two.taken ++ take bytes text → RunWentOut k known came one.taken three.taken
   part_more text end ends bytes went = record {
     pieces = lines.pieces;
     ending = text;
@@ -181,7 +182,7 @@ module _ (k : KeptValue) (base : ℕ) (trace : Reading) (one two three : Writer)
   -- the end was written, or that was stopped
   pub run_ended : (result : Result RunEnd AuditFault)
       → Told (IsRunEnd l.log f begun counted) (record { before = two; after = three }) result
-      → Run (log_behind k) (RunEnds k base) (RunWentOut k base) trace (record { before = one; after = three }) result
+      → Run (log_behind k) (RunEnds k known) (RunWentOut k known) trace (record { before = one; after = three }) result
   run_ended (Ok end) ends =
       let text = ends.text.0 in
       let is = ends.text.1 in record {
@@ -196,16 +197,16 @@ module _ (k : KeptValue) (base : ℕ) (trace : Reading) (one two three : Writer)
               given = told_all.given;
               made = subst (λ (m : ℕ). AreAllowedBetween IsMade l.log m behind told_all.given) first told_last.1;
               pieces = lines.pieces;
-              told = sym lines.same ∙ lines.followed.asked_alone ∙ ap (λ (b : ℕ). asked (known_from b) l.log lines.followed.all) low
-                  ∙ ap (asked (known_from base) l.log) (told_last.0 ∙ ap (λ (m : ℕ). told_between l.log told_all.given m behind) first);
+              told = sym lines.same ∙ lines.followed.asked_alone ∙ ap (λ (b : Known). asked b l.log lines.followed.all) low
+                  ∙ ap (asked known l.log) (told_last.0 ∙ ap (λ (m : ℕ). told_between l.log told_all.given m behind) first);
               beats = are_true_so_far l.log lines.pieces lines.through lines.silent;
               went = ends.text.2 ∙ ap (λ (t : List ℕ). t ++ text) lines.went
                   ∙ append_assoc one.taken (text_of lines.pieces) text
                   ∙ ap (λ (t : List ℕ). one.taken ++ (text_of lines.pieces ++ t)) (last text end is);
               verdict = is.verdict ∙ ap verdict_of lines.same;
-              whole = is.whole ∙ ap (λ (b : ℕ). is_whole (is_some end.carry) b begun l.log) low;
-              carry = subst (λ (b : ℕ). IfSome end.carry (λ s. IsHandedOn b (k.lines + line_count came) l.log (string_bytes s))) low
-                  (subst (λ (m : ℕ). IfSome end.carry (λ s. IsHandedOn f.base m l.log (string_bytes s))) same_count is.carry);
+              whole = is.whole ∙ ap (λ (b : Known). is_whole (is_some end.carry) b begun l.log) low;
+              carry = subst (λ (b : Known). IfSome end.carry (λ s. IsHandedOn b (k.lines + line_count came) l.log (string_bytes s))) low
+                  (subst (λ (m : ℕ). IfSome end.carry (λ s. IsHandedOn f.known m l.log (string_bytes s))) same_count is.carry);
             },
           ),
         );
@@ -220,13 +221,13 @@ module _ (k : KeptValue) (base : ℕ) (trace : Reading) (one two three : Writer)
         unfailed = tt;
       }
   run_ended (Err e) ends =
-      stopped (log_behind k) (RunEnds k base) (RunWentOut k base) trace (record { before = one; after = three }) e ends.kinds
+      stopped (log_behind k) (RunEnds k known) (RunWentOut k known) trace (record { before = one; after = three }) e ends.kinds
       fine (came, run.follows.1.1, by_fault e ends) (held_on one two three run.held ends.held)
       (λ writes. failed_at_last one two three run.kept.1 (ends.failed writes))
       (λ others. never_failed one two three run.kept.1 (ends.unfailed others))
     where
       by_fault : (e : AuditFault) → Told (IsRunEnd l.log f begun counted) (record { before = two; after = three }) (Err e)
-          → RunWentOut k base came one.taken three.taken
+          → RunWentOut k known came one.taken three.taken
       by_fault (faults.Write bytes) ends =
           let h = ends.write bytes refl in part_more h.1 h.0 h.2 bytes h.3.1
       by_fault (faults.Trace x) ends = nothing_more (ends.unwritten tt)

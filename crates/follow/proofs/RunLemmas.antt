@@ -31,6 +31,7 @@ use Rattle.audit.specs.Kinds as kind
 use Rattle.audit.specs.Parts.{Told}
 use Rattle.audit.specs.declared.plain.AuditFault.{AuditFault}
 use Rattle.audit.specs.declared.plain.AuditFault.TheVariants as faults
+use Rattle.carry_laws.specs.declared.known.Known.{Known}
 use Rattle.follow.specs.Heartbeats.{ArePast, AreSilent, AreThrough, Beats, IsThrough}
 use Rattle.follow.specs.Pieces.{Piece, piece_text, text_of, told_in}
 use Rattle.follow.specs.Reading.{IsKeptSoFar, IsSaidBehind, TakesLine}
@@ -107,29 +108,29 @@ module _ {R : Type 0} (given : R → List ℕ) (ends failures : R → ℕ) (rema
 
 -- ---- what was told and written of the lines so far
 
-pub record IsTextSoFar (says : Says) (first base : ℕ) (used start taken : List ℕ) (f : Follower) : Type 0 where
+pub record IsTextSoFar (says : Says) (first : ℕ) (known : Known) (used start taken : List ℕ) (f : Follower) : Type 0 where
   pub pieces : List Piece
   pub same : f.told.items ≡ told_in pieces
   pub went : taken ≡ start ++ text_of pieces
   pub lines : List ℕ
   pub rest : List ℕ
   pub among : used ≡ lines ++ rest
-  pub told : IsToldFrom says first base lines (told_in pieces)
+  pub told : IsToldFrom says first known lines (told_in pieces)
   pub silent : AreSilent pieces
   pub through : (u : TraceValue) → GoesOnAs says lines u → AreThrough u pieces
 
 -- and of each longer log it is told, too
-pub record IsRunSoFar (says : Says) (first base : ℕ) (used start taken : List ℕ) (f : Follower) : Type 0 where
-  pub text : IsTextSoFar says first base used start taken f
-  pub from : (f.first ≡ first) × (f.base ≡ base)
+pub record IsRunSoFar (says : Says) (first : ℕ) (known : Known) (used start taken : List ℕ) (f : Follower) : Type 0 where
+  pub text : IsTextSoFar says first known used start taken f
+  pub from : (f.first ≡ first) × (f.known ≡ known)
   pub longer : (u : TraceValue) (more : List ℕ) → says true (used ++ more) ≡ Ok u → AreInPlace u → IsOfBytes u
       → IsFollowed u f
   pub through : (u : TraceValue) (more : List ℕ) → says true (used ++ more) ≡ Ok u → AreThrough u text.pieces
   pub past : (u : TraceValue) (more : List ℕ) → says true (used ++ more) ≡ Ok u → AreInPlace u
       → ArePast u f.monitor text.pieces
 
-told_nothing : (says : Says) (first base : ℕ) (t : TraceValue) → says true [] ≡ Ok t → IsToldFrom says first base [] []
-told_nothing says first base t said = record {
+told_nothing : (says : Says) (first : ℕ) (known : Known) (t : TraceValue) → says true [] ≡ Ok t → IsToldFrom says first known [] []
+told_nothing says first known t said = record {
   trace = t;
   said = said;
   given = [];
@@ -147,10 +148,10 @@ module _ (says : Says) (s : KeptValue) (means : IsSaidBehind s says) where
   none_said : says true [] ≡ Ok s.log
   none_said = means true [] ∙ said_nothing s
 
-  pub run_first : (first base : ℕ) (f : Follower) (start : List ℕ) → f.told.items ≡ [] → (f.first ≡ first) × (f.base ≡ base)
+  pub run_first : (first : ℕ) (known : Known) (f : Follower) (start : List ℕ) → f.told.items ≡ [] → (f.first ≡ first) × (f.known ≡ known)
       → ((u : TraceValue) → GoesOn s.lines s.log u → AreInPlace u → IsOfBytes u → IsFollowed u f)
-      → next_line s.log ≤ s.lines + 1 → IsRunSoFar says first base [] start start f
-  run_first first base f start none from followed fits = record {
+      → next_line s.log ≤ s.lines + 1 → IsRunSoFar says first known [] start start f
+  run_first first known f start none from followed fits = record {
     text = record {
       pieces = [];
       same = none;
@@ -158,7 +159,7 @@ module _ (says : Says) (s : KeptValue) (means : IsSaidBehind s says) where
       lines = [];
       rest = [];
       among = refl;
-      told = told_nothing says first base s.log none_said;
+      told = told_nothing says first known s.log none_said;
       silent = each_of_none _;
       through = λ u goes. each_of_none _;
     };
@@ -168,8 +169,8 @@ module _ (says : Says) (s : KeptValue) (means : IsSaidBehind s says) where
     past = λ u more is placed. each_of_none _;
   }
 
-  pub nothing_at_all : (first base : ℕ) (start : List ℕ) → WentOut says (IsToldFrom says first base) (λ a p e v. ⊥) [] start start
-  nothing_at_all first base start = record {
+  pub nothing_at_all : (first : ℕ) (known : Known) (start : List ℕ) → WentOut says (IsToldFrom says first known) (λ a p e v. ⊥) [] start start
+  nothing_at_all first known start = record {
     pieces = [];
     ending = [];
     bytes = 0;
@@ -177,15 +178,15 @@ module _ (says : Says) (s : KeptValue) (means : IsSaidBehind s says) where
     lines = [];
     rest = [];
     among = refl;
-    told = told_nothing says first base s.log none_said;
+    told = told_nothing says first known s.log none_said;
     beats = λ u goes. each_of_none _;
     ends = inl refl;
   }
 
-module _ (says : Says) (first base : ℕ) where
+module _ (says : Says) (first : ℕ) (known : Known) where
   -- lines were taken
   pub run_line : (used further line start taken : List ℕ) (f : Follower) → further ≡ used ++ line
-      → IsRunSoFar says first base used start taken f → IsRunSoFar says first base further start taken f
+      → IsRunSoFar says first known used start taken f → IsRunSoFar says first known further start taken f
   run_line used further line start taken f is run = record {
     text = record {
       pieces = run.text.pieces;
@@ -209,14 +210,14 @@ module _ (says : Says) (first base : ℕ) where
       shorter u more said =
           ap (says true) (sym (append_assoc used line more) ∙ ap (λ (l : List ℕ). l ++ more) (sym is)) ∙ said
 
-  pub followed_now : (used start taken : List ℕ) (f : Follower) (t : TraceValue) → IsRunSoFar says first base used start taken f
+  pub followed_now : (used start taken : List ℕ) (f : Follower) (t : TraceValue) → IsRunSoFar says first known used start taken f
       → says true used ≡ Ok t → AreInPlace t → IsOfBytes t → IsFollowed t f
   followed_now used start taken f t run said placed good =
       run.longer t [] (ap (says true) (append-nil used) ∙ said) placed good
 
   -- nothing further went out
-  pub nothing_went : (used start taken : List ℕ) (f : Follower) → IsTextSoFar says first base used start taken f
-      → (came rest : List ℕ) → came ≡ used ++ rest → WentOut says (IsToldFrom says first base) (λ a p e v. ⊥) came start taken
+  pub nothing_went : (used start taken : List ℕ) (f : Follower) → IsTextSoFar says first known used start taken f
+      → (came rest : List ℕ) → came ≡ used ++ rest → WentOut says (IsToldFrom says first known) (λ a p e v. ⊥) came start taken
   nothing_went used start taken f so_far came rest is = record {
     pieces = so_far.pieces;
     ending = [];
@@ -261,8 +262,8 @@ no_lines before used n here = absurd cc
 
 -- what the lines let tell is told
 module _ (says : Says) (s : KeptValue) (means : IsSaidBehind s says)
-    (fits : next_line s.log ≤ s.lines + 1) (first base : ℕ) (low : first ≤ s.lines + 1) (used start taken : List ℕ)
-    (f g : Follower) (run : IsRunSoFar says first base used start taken f) (t : TraceValue) (said : says true used ≡ Ok t)
+    (fits : next_line s.log ≤ s.lines + 1) (first : ℕ) (known : Known) (low : first ≤ s.lines + 1) (used start taken : List ℕ)
+    (f g : Follower) (run : IsRunSoFar says first known used start taken f) (t : TraceValue) (said : says true used ≡ Ok t)
     (text : List ℕ) (line : Option ℕ) (lines : AreLines s.lines used line) (tells : TellsPiece t line f g text) where
   abbrev pieces : List Piece
   pieces = run.text.pieces ++ tells.piece ∷ []
@@ -270,7 +271,7 @@ module _ (says : Says) (s : KeptValue) (means : IsSaidBehind s says)
   said_itself : says true (used ++ []) ≡ Ok t
   said_itself = ap (says true) (append-nil used) ∙ said
 
-  from_now : (g.first ≡ first) × (g.base ≡ base)
+  from_now : (g.first ≡ first) × (g.known ≡ known)
   from_now = (tells.same.0 ∙ run.from.0, tells.same.1 ∙ run.from.1)
 
   told_behind : g.told.items ≡ told_in run.text.pieces ++ tells.piece.told
@@ -279,10 +280,10 @@ module _ (says : Says) (s : KeptValue) (means : IsSaidBehind s says)
   told_now : g.told.items ≡ told_in pieces
   told_now = told_behind ∙ sym (told_more run.text.pieces tells.piece)
 
-  told_here : IsToldFrom says first base used (told_in pieces)
-  told_here = subst (λ (n : ℕ). IsToldFrom says n base used (told_in pieces)) from_now.0
-      (subst (λ (b : ℕ). IsToldFrom says g.first b used (told_in pieces)) from_now.1
-      (subst (IsToldFrom says g.first g.base used) told_now (told_of_lines says used t g said tells.followed)))
+  told_here : IsToldFrom says first known used (told_in pieces)
+  told_here = subst (λ (n : ℕ). IsToldFrom says n known used (told_in pieces)) from_now.0
+      (subst (λ (b : Known). IsToldFrom says g.first b used (told_in pieces)) from_now.1
+      (subst (IsToldFrom says g.first g.known used) told_now (told_of_lines says used t g said tells.followed)))
 
   beat : (h : Heartbeat) → tells.piece.heartbeat ≡ Some h → Beats t g.told.items line h
   beat = beats_of tells.piece.heartbeat (Beats t g.told.items line) tells.beats
@@ -332,7 +333,7 @@ module _ (says : Says) (s : KeptValue) (means : IsSaidBehind s says)
   -- the follower took all that stands there
   goes_on : (u : TraceValue) (n : ℕ) → IsPast u f.monitor n → IsPast u g.monitor n
   goes_on u n past =
-      let stands = (followed_now says first base used start taken f t run said tells.placed tells.good).stands in
+      let stands = (followed_now says first known used start taken f t run said tells.placed tells.good).stands in
       let entries = stands.entries in
       let commits = stands.commits in
       let all = tells.all in
@@ -345,7 +346,7 @@ module _ (says : Says) (s : KeptValue) (means : IsSaidBehind s says)
       (λ earlier later p h is here. goes_on t h.line (run.past t [] said_itself tells.placed earlier later p h is here))
       (λ h here. past_now t g.monitor h.line h.entries tells.all (beat h here).through)
 
-  text_told : (now : List ℕ) → now ≡ taken ++ text → IsTextSoFar says first base used start now g
+  text_told : (now : List ℕ) → now ≡ taken ++ text → IsTextSoFar says first known used start now g
   text_told now went = record {
     pieces = pieces;
     same = told_now;
@@ -382,7 +383,7 @@ module _ (says : Says) (s : KeptValue) (means : IsSaidBehind s says)
   }
 
   pub run_told : (a : List ℕ) → used ≡ a ++ 10 ∷ [] → (now : List ℕ) → now ≡ taken ++ text
-      → IsRunSoFar says first base used start now g
+      → IsRunSoFar says first known used start now g
   unfolding text_told
   run_told a is now went = record {
     text = text_told now went;
@@ -399,7 +400,7 @@ module _ (says : Says) (s : KeptValue) (means : IsSaidBehind s says)
 
   -- a part of the text went out
   pub part_went : (came rest now : List ℕ) (n : ℕ) → came ≡ used ++ rest → now ≡ taken ++ take n text
-      → WentOut says (IsToldFrom says first base) (λ a p e v. ⊥) came start now
+      → WentOut says (IsToldFrom says first known) (λ a p e v. ⊥) came start now
   part_went came rest now n among went = record {
     pieces = pieces;
     ending = [];
@@ -419,20 +420,20 @@ module _ (says : Says) (s : KeptValue) (means : IsSaidBehind s says)
 
 -- where telling failed
 module _ (says : Says) (s : KeptValue) (means : IsSaidBehind s says)
-    (fits : next_line s.log ≤ s.lines + 1) (first base : ℕ) (low : first ≤ s.lines + 1) (used start : List ℕ) (f g : Follower)
+    (fits : next_line s.log ≤ s.lines + 1) (first : ℕ) (known : Known) (low : first ≤ s.lines + 1) (used start : List ℕ) (f g : Follower)
     (k : KeptValue) (said : says true used ≡ Ok k.log) (line : Option ℕ) (lines : AreLines s.lines used line) (out : Writing)
-    (run : IsRunSoFar says first base used start out.before.taken f) (came rest : List ℕ) (is : came ≡ used ++ rest) where
+    (run : IsRunSoFar says first known used start out.before.taken f) (came rest : List ℕ) (is : came ≡ used ++ rest) where
   abbrev WentSoFar : List ℕ → Type 0
-  WentSoFar = WentOut says (IsToldFrom says first base) (λ a p e v. ⊥) came start
+  WentSoFar = WentOut says (IsToldFrom says first known) (λ a p e v. ⊥) came start
 
   unwritten : out.after.taken ≡ out.before.taken → WentSoFar out.after.taken
-  unwritten same = subst WentSoFar (sym same) (nothing_went says first base used start out.before.taken f run.text came rest is)
+  unwritten same = subst WentSoFar (sym same) (nothing_went says first known used start out.before.taken f run.text came rest is)
 
   pub tell_went : (e : AuditFault)
       → Told (λ text (l : KeptValue). (l ≡ k) × TellsPiece k.log line f g text) out (Err e) → WentSoFar out.after.taken
   tell_went (faults.Write n) told =
       let h = told.write n refl in
-      part_went says s means fits first base low used start out.before.taken f g run k.log said h.1 line lines h.2.1 came rest
+      part_went says s means fits first known low used start out.before.taken f g run k.log said h.1 line lines h.2.1 came rest
       out.after.taken n is h.3.1
   tell_went (faults.Trace x) told = unwritten (told.unwritten tt)
   tell_went (faults.Evidence x) told = unwritten (told.unwritten tt)
@@ -577,20 +578,20 @@ held_on one two three before then =
 module _ (trace : Reading) (one two three : Writer) (kept : WriterNeverFailed (record { before = one; after = two }))
     (held : StandsBehind (record { before = one; after = two })) (says : Says) (s : KeptValue)
     (means : IsSaidBehind s says) (fits : next_line s.log ≤ s.lines + 1)
-    (first base : ℕ) (low : first ≤ s.lines + 1) (f g : Follower) (k : KeptValue) where
+    (first : ℕ) (known : Known) (low : first ≤ s.lines + 1) (f g : Follower) (k : KeptValue) where
   -- telling was stopped
   pub tell_stopped : (e : AuditFault) (used : List ℕ) → IsFine trace → says true used ≡ Ok k.log → (line : Option ℕ)
-      → AreLines s.lines used line → IsRunSoFar says first base used one.taken two.taken f
+      → AreLines s.lines used line → IsRunSoFar says first known used one.taken two.taken f
       → Told (λ text (l : KeptValue). (l ≡ k) × TellsPiece k.log line f g text) (record { before = two; after = three }) (Err e)
       → (came rest : List ℕ) → trace.after.given ≡ trace.before.given ++ came → came ≡ used ++ rest
       → {V : Type 0} (Follows : List ℕ → List ℕ → List ℕ → V → Type 0)
-      → Run says Follows (WentOut says (IsToldFrom says first base) (λ a p e v. ⊥)) trace (record { before = one; after = three }) (Err e)
+      → Run says Follows (WentOut says (IsToldFrom says first known) (λ a p e v. ⊥)) trace (record { before = one; after = three }) (Err e)
   tell_stopped e used fine said line lines run told came rest gave is Follows =
-      stopped says Follows (WentOut says (IsToldFrom says first base) (λ a p e v. ⊥)) trace (record { before = one; after = three })
+      stopped says Follows (WentOut says (IsToldFrom says first known) (λ a p e v. ⊥)) trace (record { before = one; after = three })
       e told.kinds fine (
         came,
         gave,
-        tell_went says s means fits first base low used one.taken f g k said line lines
+        tell_went says s means fits first known low used one.taken f g k said line lines
             (record { before = two; after = three }) run came rest is e told,
       )
       (held_on one two three held told.held)
@@ -599,17 +600,17 @@ module _ (trace : Reading) (one two three : Writer) (kept : WriterNeverFailed (r
 
   -- all lines were taken and told
   pub lines_followed : (used : List ℕ) (v : IndexValue) (n : ℕ) (l : KeptValue) → n ≡ line_count used → IsFine trace → says true used ≡ Ok k.log
-      → OfWhole trace (λ a. a ≡ used) → IsRunSoFar says first base used one.taken two.taken f
+      → OfWhole trace (λ a. a ≡ used) → IsRunSoFar says first known used one.taken two.taken f
       → Told (λ text (l : KeptValue). (l ≡ k) × TellsPiece k.log None f g text) (record { before = two; after = three }) (Ok l)
       → IsGrowing k.log.declarations k.log.commits v
-      → Run says (TellsLines says g) (WentOut says (IsToldFrom says first base) (λ a p e v. ⊥)) trace
+      → Run says (TellsLines says g) (WentOut says (IsToldFrom says first known) (λ a p e v. ⊥)) trace
       (record { before = one; after = three }) (Ok (l, v, n))
   lines_followed used v n l counted fine said whole run told growing =
       let same : l ≡ k = told.text.1.0 in record {
         follows = of_whole-map (λ (r : Reader). r.given) (λ (r : Reader). r.ends) trace.before trace.after (λ a. a ≡ used)
             (λ a. TellsLines says g a one.taken three.taken (l, v, n)) (λ a is.
             subst (λ (x : List ℕ). TellsLines says g x one.taken three.taken (l, v, n)) (sym is)
-            (lines_told says s means fits first base low used one.taken two.taken f g run k.log said told.text.0 None
+            (lines_told says s means fits first known low used one.taken two.taken f g run k.log said told.text.0 None
             (no_lines s.lines used) told.text.1.1 l v n counted (ap (λ (x : KeptValue). x.log) same)
             (subst (λ (x : KeptValue). IsGrowing x.log.declarations x.log.commits v) (sym same) growing)
             three.taken told.text.2)) whole;

@@ -30,6 +30,7 @@ use Rattle.audit.specs.declared.plain.Verdict.TheVariants.{Clean}
 use Rattle.audit.specs.declared.plain.AuditFault.{AuditFault}
 use Rattle.audit.specs.declared.plain.AuditFault.TheVariants as faults
 use Rattle.audit.proofs.MadeAuditLemmas.{speaks_of_made}
+use Rattle.carry_laws.specs.declared.known.Known.{Known}
 use Rattle.follow.specs.Following.{Ends, Followed, Follows, WentOut}
 use Rattle.follow.specs.Heartbeats.{AreTrue}
 use Rattle.follow.specs.Pieces.{text_of, told_in}
@@ -37,16 +38,16 @@ use Rattle.follow.specs.Running as running
 use Rattle.follow.specs.Running.{Run}
 use Rattle.follow.specs.Lines.{IsSoFar, TellsLines}
 use Rattle.follow.specs.SoFar.{TellsRest}
-use Rattle.carry_laws.specs.Asked.{asked, known_from}
+use Rattle.carry_laws.specs.Asked.{all_known, asked}
 use Rattle.follow.specs.Told.{IsToldFrom, IsToldOf}
 use Rattle.follow.specs.declared.follower.Follower.{Follower}
-use Rattle.carry_laws.proofs.AskLemmas.{all_asked, asked_of_base}
+use Rattle.carry_laws.proofs.AskLemmas.{all_asked, asked_of_all}
 use Rattle.follow.proofs.BeatLemmas.{are_true, are_true_so_far}
 use Rattle.follow.proofs.RunLemmas.{failed_at_last, held_on, never_failed, stopped, stopped_alike, IsFine}
 
 -- ---- what was told of a trace from its first line on
 
-told_of : (lines : List ℕ) (told : List Finding) → IsToldFrom trace_of 0 0 lines told → IsToldOf lines told
+told_of : (lines : List ℕ) (told : List Finding) → IsToldFrom trace_of 0 all_known lines told → IsToldOf lines told
 told_of lines told h = record {
   trace = h.trace;
   said = h.said;
@@ -56,7 +57,7 @@ told_of lines told h = record {
   is = h.is ∙ all_asked h.trace (told_between h.trace h.given 0 h.line) ∙ from_first h.trace h.given h.line;
 }
 
-pub went_whole : (came old new : List ℕ) → IsSoFar trace_of 0 0 came old new → WentOut came old new
+pub went_whole : (came old new : List ℕ) → IsSoFar trace_of 0 all_known came old new → WentOut came old new
 went_whole came old new h = record {
   pieces = h.pieces;
   ending = h.ending;
@@ -92,9 +93,9 @@ nothing_found told found none same =
     nil_permuted found (subst (λ (fs : List Finding). IsPermutation fs found) (sym none) same)
 
 module _ (used start taken : List ℕ) (f : Follower) (k : KeptValue) (v : IndexValue) (n : ℕ)
-    (lines : TellsLines trace_of f used start taken (k, v, n)) (first : f.first ≡ 0) (base : f.base ≡ 0) where
+    (lines : TellsLines trace_of f used start taken (k, v, n)) (first : f.first ≡ 0) (knows : f.known ≡ all_known) where
   told_so_far : f.told.items ≡ lines.followed.all
-  told_so_far = lines.followed.asked_alone ∙ asked_of_base f.base base k.log lines.followed.all
+  told_so_far = lines.followed.asked_alone ∙ asked_of_all f.known knows k.log lines.followed.all
 
   told_from_first : IsTold IsMade 0 k.log f.monitor [] lines.followed.all
   told_from_first = subst (λ (n : ℕ). IsTold IsMade n k.log f.monitor [] lines.followed.all) first lines.followed.told
@@ -127,16 +128,16 @@ module _ (used start taken : List ℕ) (f : Follower) (k : KeptValue) (v : Index
   }
 
 module _ (used start taken : List ℕ) (f g : Follower) (k : KeptValue) (v : IndexValue) (n : ℕ)
-    (lines : TellsLines trace_of f used start taken (k, v, n)) (first : f.first ≡ 0) (base : f.base ≡ 0)
+    (lines : TellsLines trace_of f used start taken (k, v, n)) (first : f.first ≡ 0) (knows : f.known ≡ all_known)
     (text : List ℕ) (tells : TellsRest k.log f g text) where
   abbrev t : TraceValue
   t = k.log
 
   abbrev rest : List Finding
-  rest = asked (known_from f.base) t tells.rest
+  rest = asked f.known t tells.rest
 
   abbrev told_here : IsTold IsMade 0 t f.monitor [] lines.followed.all
-  told_here = told_from_first used start taken f k v n lines first base
+  told_here = told_from_first used start taken f k v n lines first knows
 
   left : TellsLeft IsMade t lines.followed.all (lines.followed.all ++ tells.rest)
   left = (tells.left.0, tells.left.1, ap (λ (fs : List Finding). lines.followed.all ++ fs) tells.left.2)
@@ -146,8 +147,8 @@ module _ (used start taken : List ℕ) (f g : Follower) (k : KeptValue) (v : Ind
       (lines.followed.all ++ tells.rest) tells.good told_here lines.all left
 
   told_whole : lines.followed.all ++ tells.rest ≡ told_in lines.pieces ++ rest
-  told_whole = ap (λ (fs : List Finding). fs ++ tells.rest) (sym (told_so_far used start taken f k v n lines first base) ∙ lines.same)
-      ∙ ap (λ (fs : List Finding). told_in lines.pieces ++ fs) (sym (asked_of_base f.base base t tells.rest))
+  told_whole = ap (λ (fs : List Finding). fs ++ tells.rest) (sym (told_so_far used start taken f k v n lines first knows) ∙ lines.same)
+      ∙ ap (λ (fs : List Finding). told_in lines.pieces ++ fs) (sym (asked_of_all f.known knows t tells.rest))
 
   told_now : g.told.items ≡ told_in lines.pieces ++ rest
   told_now = tells.behind ∙ ap (λ (fs : List Finding). fs ++ rest) lines.same
@@ -159,7 +160,7 @@ module _ (used start taken : List ℕ) (f g : Follower) (k : KeptValue) (v : Ind
     rest = rest;
     all = subst (TellsAll IsMade t []) told_whole all;
     beats = are_true t lines.pieces rest lines.through lines.silent (λ earlier later p h is here.
-        subst (All (λ (x : Finding). h.line < x.line)) (sym (asked_of_base f.base base t tells.rest))
+        subst (All (λ (x : Finding). h.line < x.line)) (sym (asked_of_all f.known knows t tells.rest))
         (tells.silent h.line (lines.past earlier later p h is here)));
     text = tells.is ∙ ap (λ (fs : List Finding). flat_map line_text rest ++ last_lines fs (length t.entries)) told_now;
     verdict = is ∙ ap verdict_of told_now;
@@ -184,8 +185,8 @@ module _ (used start taken : List ℕ) (f g : Follower) (k : KeptValue) (v : Ind
     lines = used;
     rest = [];
     among = sym (append-nil used);
-    told = told_lines used start taken f k v n lines first base;
-    beats = beats_so_far used start taken f k v n lines first base;
+    told = told_lines used start taken f k v n lines first knows;
+    beats = beats_so_far used start taken f k v n lines first knows;
     ends = inr (w, end_told w is);
   }
 
@@ -197,21 +198,21 @@ module _ (used start taken : List ℕ) (f g : Follower) (k : KeptValue) (v : Ind
 
 -- ---- what is answered
 
-pub not_followed : (trace : Reading) (one two : Writer) (e : AuditFault) (f : Follower) → f.first ≡ 0 → f.base ≡ 0
+pub not_followed : (trace : Reading) (one two : Writer) (e : AuditFault) (f : Follower) → f.first ≡ 0 → f.known ≡ all_known
     → {V : Type 0} (Lines : List ℕ → List ℕ → List ℕ → V → Type 0)
-    → Run trace_of Lines (IsSoFar trace_of f.first f.base) trace (record { before = one; after = two }) (Err e)
+    → Run trace_of Lines (IsSoFar trace_of f.first f.known) trace (record { before = one; after = two }) (Err e)
     → Followed trace (record { before = one; after = two }) (Err e)
-not_followed trace one two e f first base Lines run = record {
-  run = stopped_alike trace_of Lines Follows (IsSoFar trace_of f.first f.base) WentOut
-      (λ came old new h. went_whole came old new (subst (λ (n : ℕ). IsSoFar trace_of n 0 came old new) first
-      (subst (λ (b : ℕ). IsSoFar trace_of f.first b came old new) base h)))
+not_followed trace one two e f first knows Lines run = record {
+  run = stopped_alike trace_of Lines Follows (IsSoFar trace_of f.first f.known) WentOut
+      (λ came old new h. went_whole came old new (subst (λ (n : ℕ). IsSoFar trace_of n all_known came old new) first
+      (subst (λ (b : Known). IsSoFar trace_of f.first b came old new) knows h)))
       trace (record { before = one; after = two }) e run;
   headline = λ is. absurd (cc (is));
   made = tt;
 }
 
 module _ (trace : Reading) (one two three : Writer) (f g : Follower) (k : KeptValue) (v : IndexValue) (n : ℕ)
-    (first : f.first ≡ 0) (base : f.base ≡ 0) {Stands : List ℕ → List ℕ → List ℕ → Type 0}
+    (first : f.first ≡ 0) (knows : f.known ≡ all_known) {Stands : List ℕ → List ℕ → List ℕ → Type 0}
     (run : Run trace_of (TellsLines trace_of f) Stands trace (record { before = one; after = two }) (Ok (k, v, n))) where
   abbrev came : List ℕ
   came = run.follows.1.0
@@ -234,7 +235,7 @@ module _ (trace : Reading) (one two three : Writer) (f g : Follower) (k : KeptVa
       let says = told.text.1 in record {
         run = record {
           follows = whole (λ a. Follows a one.taken three.taken w)
-              (end_went came one.taken two.taken f g k v n lines first base told.text.0 says.0 w says.1 three.taken told.text.2);
+              (end_went came one.taken two.taken f g k v n lines first knows told.text.0 says.0 w says.1 three.taken told.text.2);
           stands = tt;
           trace_refused = λ x is. absurd (cc (is));
           trace_cut = λ x is. absurd (cc (is));
@@ -246,7 +247,7 @@ module _ (trace : Reading) (one two three : Writer) (f g : Follower) (k : KeptVa
           unfailed = tt;
         };
         headline = λ clean. whole IsTraceRightAndFresh
-            (end_clean came one.taken two.taken f g k v n lines first base told.text.0 says.0 (cc (clean) ∙ says.1) law);
+            (end_clean came one.taken two.taken f g k v n lines first knows told.text.0 says.0 (cc (clean) ∙ says.1) law);
         made = whole SpeaksOfMade (speaks_of_made came k.log lines.said);
       }
   ended (Err e) law told = record {
@@ -259,13 +260,13 @@ module _ (trace : Reading) (one two three : Writer) (f g : Follower) (k : KeptVa
   }
     where
       nothing : three.taken ≡ two.taken → WentOut came one.taken three.taken
-      nothing is = nothing_more came one.taken two.taken f k v n lines first base three.taken is
+      nothing is = nothing_more came one.taken two.taken f k v n lines first knows three.taken is
 
       by_fault : (e : AuditFault) → Told (λ text w. TellsRest k.log f g text × (w ≡ verdict_of g.told.items))
           (record { before = two; after = three }) (Err e) → WentOut came one.taken three.taken
       by_fault (faults.Write bytes) told =
           let h = told.write bytes refl in
-          end_part came one.taken two.taken f g k v n lines first base h.1 h.2.0 h.0 h.2.1 three.taken bytes h.3.1
+          end_part came one.taken two.taken f g k v n lines first knows h.1 h.2.0 h.0 h.2.1 three.taken bytes h.3.1
       by_fault (faults.Trace x) told = nothing (told.unwritten tt)
       by_fault (faults.Evidence x) told = nothing (told.unwritten tt)
       by_fault faults.OutOfMemory told = nothing (told.unwritten tt)

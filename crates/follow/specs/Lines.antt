@@ -9,6 +9,7 @@ use Rattle.follow_laws.specs.Begun.{IsOfBytes}
 use Rattle.runs.specs.Kept.{KeptValue}
 use Rattle.monitor.specs.Standing.{IsAtEnd}
 use Rattle.audit.specs.Audit.{Says}
+use Rattle.carry_laws.specs.declared.known.Known.{Known}
 use Rattle.follow.specs.Heartbeats.{ArePast, AreSilent, AreThrough}
 use Rattle.follow.specs.Pieces.{Piece, text_of, told_in}
 use Rattle.follow.specs.Running.{GoesOnAs, WentOut}
@@ -17,8 +18,8 @@ use Rattle.follow.specs.Told.{IsToldFrom}
 use Rattle.follow.specs.declared.follower.Follower.{Follower}
 
 -- what went out is told of the lines that had come
-abbrev pub IsSoFar : Says → ℕ → ℕ → List ℕ → List ℕ → List ℕ → Type 0
-IsSoFar says first base = WentOut says (IsToldFrom says first base) (λ a pieces ending v. ⊥)
+abbrev pub IsSoFar : Says → ℕ → Known → List ℕ → List ℕ → List ℕ → Type 0
+IsSoFar says first known = WentOut says (IsToldFrom says first known) (λ a pieces ending v. ⊥)
 
 -- All of the bytes say a log, and what its lines let tell is told.
 pub record TellsLines (says : Says) (f : Follower) (a old new : List ℕ) (read : KeptValue × IndexValue × ℕ)

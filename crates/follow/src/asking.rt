@@ -1,10 +1,12 @@
-//! Which findings are on entries that ask at a base or above.
+//! Which findings are on entries that are audited.
 
 ghost use Rattle.std.specs.Prelude.{◌≡◌, ◌<◌, ◌≤◌, ◌++◌, ℕ, Some, length, slice_get, OnOk};
 ghost use Rattle.trace_lines.specs.Values.{EntryValue};
-ghost use Rattle.carry_laws.specs.Asked.{asked, is_asked, known_from};
+ghost use Rattle.carry_laws.specs.Asked.{asked, is_asked};
 
+use carry_laws::Known;
 use findings::Finding;
+use runs::is_audited;
 use std::alloc::AllocError;
 use trace_lines::Trace;
 use trace_lines::laws::entries_rise;
@@ -30,34 +32,31 @@ fn entries_before(trace: &Trace, line: u64) -> usize
     low
 }
 
-/// Whether the entry on a line, if there is one, asks at the base or above.
-fn is_asked(trace: &Trace, base: u64, line: u64) -> bool
-    ensures { result ≡ is_asked (known_from base) trace.now line }
+/// Whether the entry on a line, if there is one, is audited by what is known.
+fn is_asked(trace: &Trace, known: Known, line: u64) -> bool
+    ensures { result ≡ is_asked known trace.now line }
 {
-    if base == 0 {
-        return true;
-    }
     let i = entries_before(trace, line);
     if i >= trace.len() {
         return true;
     }
     let entry = trace.entry(i);
-    entry.line != line || base <= entry.snapshot
+    entry.line != line || is_audited(trace, known, i)
 }
 
-/// Appends those of the findings that are on entries which ask at the base or above. It is refused only where memory
-/// runs out.
+/// Appends those of the findings that are on entries which are audited by what is known. It is refused only where
+/// memory runs out.
 pub(crate) fn push_asked(
     trace: &Trace,
-    base: u64,
+    known: Known,
     found: &[Finding],
     told: &mut Vec<Finding>,
 ) -> Result<(), AllocError>
-    ensures { OnOk result (told.new.items ≡ told.old.items ++ asked (known_from base) trace.now found.now) }
+    ensures { OnOk result (told.new.items ≡ told.old.items ++ asked known trace.now found.now) }
 {
     // bounded by what was found: each turn looks at one
     for finding in found {
-        if is_asked(trace, base, finding.line) {
+        if is_asked(trace, known, finding.line) {
             told.push(*finding)?;
         }
     }

@@ -4,12 +4,14 @@ ghost use Rattle.std.specs.Prelude.{◌≡◌, ◌≤◌, [], length, IfOk, IfSo
 ghost use Rattle.trace_lines.specs.Values.{TraceValue, next_line};
 ghost use Rattle.audit.specs.Audit.{verdict_of};
 ghost use Rattle.monitor.specs.Standing.{IsAtEnd};
+ghost use Rattle.carry_laws.specs.Asked.{all_known};
 ghost use Rattle.follow.specs.Heartbeats.{AreSettledTo, Beats, IsThrough};
 ghost use Rattle.follow.specs.SoFar.{IsFollowed, TellsFromSame, TellsPiece, TellsRest};
 
 use crate::asking::push_asked;
 use crate::heartbeat::{Heartbeat, push_heartbeat, settled_from};
 use audit::{MakingJudge, PausedJudge, Verdict};
+use carry_laws::Known;
 use findings::{Finding, push_last_lines, push_lines};
 use monitor::{Monitor, stand_behind, tell_further};
 use std::alloc::{AllocError, Global};
@@ -24,8 +26,8 @@ pub struct Follower {
     pub monitor: Monitor,
     /// The line from which on it tells: of earlier ones another follower told.
     pub first: u64,
-    /// It tells of entries that ask at this timestamp or above: below it the log does not know the store.
-    pub base: u64,
+    /// It tells of entries that are audited by what the log knows.
+    pub known: Known,
     /// What was told, in the order of telling.
     pub told: Vec<Finding>,
     /// How many of the first entries are known to be settled.
@@ -41,13 +43,16 @@ impl Follower {
     pub fn new(alloc: Global) -> Follower
         ensures followed { (t : TraceValue) → IsFollowed t result }
         ensures told { result.told.items ≡ [] }
-        ensures all { (result.first ≡ 0) × (result.base ≡ 0) }
+        ensures all { (result.first ≡ 0) × (result.known ≡ all_known) }
     {
         Follower {
             alloc,
             monitor: Monitor::new(alloc),
             first: 0,
-            base: 0,
+            known: Known {
+                base: 0,
+                versions: 0,
+            },
             told: Vec::new(alloc),
             settled: 0,
             beaten: 0,
@@ -55,19 +60,19 @@ impl Follower {
         }
     }
 
-    /// All lines of a log were taken, and nothing was told: it tells from a line behind them on, of entries that ask at
-    /// the base or above. It is refused only where memory runs out.
+    /// All lines of a log were taken, and nothing was told: it tells from a line behind them on, of entries that are
+    /// audited by what is known. It is refused only where memory runs out.
     pub fn behind(
         alloc: Global,
         trace: &Trace,
         first: u64,
-        base: u64,
+        known: Known,
     ) -> Result<Follower, AllocError>
         requires { next_line trace.now ≤ first }
         ensures followed { IfOk result (IsFollowed trace.now) }
         ensures all { IfOk result (λ f. IsAtEnd trace.now f.monitor) }
         ensures told { IfOk result (λ f. f.told.items ≡ []) }
-        ensures from { IfOk result (λ f. (f.first ≡ first) × (f.base ≡ base)) }
+        ensures from { IfOk result (λ f. (f.first ≡ first) × (f.known ≡ known)) }
     {
         stand_in_order(trace);
         entries_rise(trace);
@@ -79,7 +84,7 @@ impl Follower {
             alloc,
             monitor,
             first,
-            base,
+            known,
             told: Vec::new(alloc),
             settled: 0,
             beaten,
@@ -139,7 +144,7 @@ impl Follower {
         let mut judge = self.judge(trace);
         tell_further(trace, &mut self.monitor, &mut judge, &mut found)?;
         self.judge = judge.pause();
-        push_asked(trace, self.base, &found, &mut self.told)?;
+        push_asked(trace, self.known, &found, &mut self.told)?;
         let mut text = String::new(self.alloc);
         push_lines(&self.told[before..], &mut text)?;
         push_heartbeat(self.heartbeat(trace, line), &mut text)?;
@@ -161,7 +166,7 @@ impl Follower {
         let mut found = Vec::new(self.alloc);
         let mut judge = self.judge(trace);
         self.monitor.end(trace, &mut judge, &mut found)?;
-        push_asked(trace, self.base, &found, &mut self.told)?;
+        push_asked(trace, self.known, &found, &mut self.told)?;
         let mut text = String::new(self.alloc);
         push_lines(&self.told[before..], &mut text)?;
         push_last_lines(&self.told, trace.len(), &mut text)?;

@@ -92,7 +92,7 @@ pub(crate) fn follow_lines<A: Source, W: Sink>(
     requires followed { (u : TraceValue) → GoesOn log.lines log.log u → AreInPlace u → IsOfBytes u
         → IsFollowed u follower.old }
     ensures run { (says : Says) → IsSaidBehind log says → Run says (TellsLines says follower.new)
-        (IsSoFar says follower.old.first follower.old.base)
+        (IsSoFar says follower.old.first follower.old.known)
         (reads A.given A.ends A.failures A.remaining trace.old trace.new)
         (writes W.taken W.flushes W.failures W.idle W.contents out.old out.new) result }
     ensures from { OnOk result (TellsFromSame follower.old follower.new) }

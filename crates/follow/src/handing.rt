@@ -1,9 +1,9 @@
 //! A run that begins behind a log, and hands on.
 
-ghost use Rattle.std.specs.Prelude.{◌==◌, ◌&&◌, ◌||◌, ◌≡◌, ◌≤◌, ◌+◌, ◌++◌, ◌∷◌, [], drop, length, IfErr, IfOk, IfSome, OnOk, Some, string_bytes};
+ghost use Rattle.std.specs.Prelude.{◌==◌, ◌&&◌, ◌||◌, ◌≡◌, ◌≤◌, ◌<◌, ◌+◌, ◌++◌, ◌∷◌, [], drop, length, slice_get, IfErr, IfOk, IfSome, OnOk, Some, string_bytes};
 ghost use Rattle.std.specs.List.{flat_map};
 ghost use Rattle.trace_lines.specs.Placed.{AreInPlace};
-ghost use Rattle.trace_lines.specs.Values.{TraceValue, next_line};
+ghost use Rattle.trace_lines.specs.Values.{EntryValue, TraceValue, next_line};
 ghost use Rattle.windows.specs.Growth.{GoesOn};
 ghost use Rattle.follow_laws.specs.Begun.{IsOfBytes};
 ghost use Rattle.userset_index.specs.Growth.{IsGrowing};
@@ -15,7 +15,7 @@ ghost use Rattle.audit.specs.Parts.{Told};
 ghost use Rattle.runs.specs.DeclaredTexts.{texts_of};
 ghost use Rattle.runs.specs.Handed.{AreDeclarationsOf};
 ghost use Rattle.runs.specs.Kept.{log_behind};
-ghost use Rattle.follow.specs.Handing.{IsHandedOn, IsRunEnd, RunEnds, RunWentOut, run_lines, run_report, unasked_at, unasked_line, unaudited};
+ghost use Rattle.follow.specs.Handing.{IsHandedOn, IsRunEnd, RunEnds, RunWentOut, run_lines, run_report, unaudited, unaudited_line, why_unaudited};
 ghost use Rattle.follow.specs.Handing as spec;
 ghost use Rattle.follow.specs.Pieces.{number_text};
 ghost use Rattle.follow.specs.Running.{Run};
@@ -25,10 +25,11 @@ use crate::follower::Follower;
 use crate::following::follow_lines;
 use crate::heartbeat::push_number;
 use audit::{AuditFault, Verdict};
-use carry::{Carry, write_carry};
+use carry::write_carry;
+use carry_laws::Known;
 use devices::{Sink, Source};
 use findings::{Finding, push_last_lines};
-use runs::{DeclaredLine, KeptLog, hand_on};
+use runs::{DeclaredLine, KeptLog, Wanted, hand_on, is_audited};
 use std::alloc::{AllocError, Global};
 use trace_lines::Trace;
 use trace_lines::laws::{entries_rise, stand_in_order, valid_strata, versions_issued_once};
@@ -47,48 +48,73 @@ pub struct RunEnd {
 }
 
 /// What a run hands on: the base of its carry is up to `oldest`, or is the one that it began with, or its log's first
-/// commit that no change of the rules makes, and `before` is the checksum of the carry that it began with.
+/// commit that no change of the rules makes; `versions` says how many of the versions that were issued last are carried
+/// at least, all where it is `None`; and `before` is the checksum of the carry that it began with.
 #[derive(Clone, Copy)]
 pub struct Handing<'a> {
     pub oldest: u64,
+    pub versions: Option<u64>,
     pub before: Option<&'a str>,
 }
 
-/// Appends a line for an entry that asks below the base.
-fn push_if_unasked(base: u64, line: u64, snapshot: u64, text: &mut String) -> Result<(), AllocError>
-    ensures { OnOk result (string_bytes text.new ≡ string_bytes text.old ++ unasked_at base line snapshot) }
+/// Appends why an entry with this snapshot is not audited.
+fn push_why(base: u64, snapshot: u64, text: &mut String) -> Result<(), AllocError>
+    ensures { OnOk result (string_bytes text.new ≡ string_bytes text.old ++ why_unaudited base snapshot) }
 {
     if snapshot >= base {
-        return Ok(());
+        return text.push_str("its version was let go\n");
     }
-    text.push_str("line ")?;
-    push_number(line, ": not audited, below ", text)?;
+    text.push_str("below ")?;
     push_number(base, "\n", text)
 }
 
-/// Appends a line for each entry from number `begun` on that asks below the base.
-fn push_unasked(trace: &Trace, base: u64, begun: usize, text: &mut String) -> Result<(), AllocError>
+/// Appends a line for an entry that is not audited by what is known.
+fn push_if_unaudited(
+    trace: &Trace,
+    known: Known,
+    i: usize,
+    text: &mut String,
+) -> Result<(), AllocError>
+    requires { i < length trace.now.entries }
+    ensures { (e : EntryValue) → slice_get trace.now.entries i ≡ Some e → OnOk result (string_bytes text.new
+        ≡ string_bytes text.old ++ unaudited_line known trace.now.entries e) }
+{
+    if is_audited(trace, known, i) {
+        return Ok(());
+    }
+    let entry = trace.entry(i);
+    text.push_str("line ")?;
+    push_number(entry.line, ": not audited, ", text)?;
+    push_why(known.base, entry.snapshot, text)
+}
+
+/// Appends a line for each entry from number `begun` on that is not audited by what is known.
+fn push_unaudited(
+    trace: &Trace,
+    known: Known,
+    begun: usize,
+    text: &mut String,
+) -> Result<(), AllocError>
     requires { begun ≤ length trace.now.entries }
     ensures { OnOk result (string_bytes text.new
-        ≡ string_bytes text.old ++ flat_map (unasked_line base) (drop begun trace.now.entries)) }
+        ≡ string_bytes text.old ++ flat_map (unaudited_line known trace.now.entries) (drop begun trace.now.entries)) }
 {
     // each turn looks at an entry that came in this run
     for i in begun..trace.len() {
-        let entry = trace.entry(i);
-        push_if_unasked(base, entry.line, entry.snapshot, text)?;
+        push_if_unaudited(trace, known, i, text)?;
     }
     Ok(())
 }
 
-/// How many entries from number `begun` on ask below the base.
-fn count_unaudited(trace: &Trace, base: u64, begun: usize) -> usize
+/// How many entries from number `begun` on are not audited by what is known.
+fn count_unaudited(trace: &Trace, known: Known, begun: usize) -> usize
     requires { begun ≤ length trace.now.entries }
-    ensures { result ≡ unaudited base begun trace.now }
+    ensures { result ≡ unaudited known begun trace.now }
 {
     let mut count = 0;
     // each turn looks at an entry that came in this run
     for i in begun..trace.len() {
-        if trace.entry(i).snapshot < base {
+        if !is_audited(trace, known, i) {
             count += 1;
         }
     }
@@ -143,12 +169,12 @@ fn run_text(
     requires begun { begun ≤ length trace.now.entries }
     requires stands { Stands trace.now follower.now.monitor }
     requires all { IsAtEnd trace.now follower.now.monitor }
-    requires unaudited { unaudited ≡ spec.unaudited follower.now.base begun trace.now }
+    requires unaudited { unaudited ≡ spec.unaudited follower.now.known begun trace.now }
     ensures { IfOk result (λ s. string_bytes s
-        ≡ run_lines whole follower.now.base begun trace.now follower.now.told.items) }
+        ≡ run_lines whole follower.now.known begun trace.now follower.now.told.items) }
 {
     let mut text = String::new(follower.alloc);
-    push_unasked(trace, follower.base, begun, &mut text)?;
+    push_unaudited(trace, follower.known, begun, &mut text)?;
     push_count("not audited ", unaudited as u64, "\n", &mut text)?;
     let open = follower.monitor.count_open(trace) as u64;
     push_count("open ", open, "\n", &mut text)?;
@@ -169,37 +195,32 @@ fn first_store(trace: &Trace, declared: &[DeclaredLine]) -> Option<u64> {
     None
 }
 
-/// A carry, where its base is not below another one.
-fn from_base<'a>(base: u64, carry: Option<Carry<'a>>) -> Option<Carry<'a>>
-    ensures { IfSome result (λ c. (carry.entry ≡ Some c) × (base ≤ c.base)) }
-{
-    let carry = carry?;
-    if carry.base < base {
-        return None;
-    }
-    Some(carry)
-}
-
-/// The text of a carry of a log behind so many lines, where one is asked for, and the log has a base that is not below
-/// this one. It is the last that may be, up to the greatest of this base, the first commit and what is asked for.
+/// The text of a carry of a log behind so many lines, of which so much is known, where one is asked for, and the log has a
+/// base that is not below the one that is known. It is the last that may be, up to the greatest of that base, the first
+/// commit and what is asked for.
 fn handed_text(
     alloc: Global,
     trace: &Trace,
     declared: &[DeclaredLine],
-    base: u64,
+    known: Known,
     lines: u64,
     handing: Option<Handing<'_>>,
 ) -> Result<Option<String>, AllocError>
     requires { AreDeclarationsOf trace.now (texts_of declared.now) }
-    ensures { IfOk result (λ o. IfSome o (λ s. IsHandedOn base lines trace.now (string_bytes s))) }
+    ensures { IfOk result (λ o. IfSome o (λ s. IsHandedOn known lines trace.now (string_bytes s))) }
 {
     let Some(handing) = handing else {
         return Ok(None);
     };
     let first = first_store(trace, declared).unwrap_or(0);
-    let oldest = handing.oldest.max(base).max(first);
-    let carry = hand_on(alloc, trace, declared, lines, oldest, handing.before)?;
-    match from_base(base, carry) {
+    let wanted = Wanted {
+        lines,
+        oldest: handing.oldest.max(known.base).max(first),
+        versions: handing.versions,
+        before: handing.before,
+    };
+    let carry = hand_on(alloc, trace, declared, known, wanted)?;
+    match carry {
         Some(carry) => Ok(Some(write_carry(alloc, &carry)?)),
         None => Ok(None),
     }
@@ -237,8 +258,8 @@ fn end_run<W: Sink>(
     let Some(lines) = start.lines.checked_add(read) else {
         return Err(AuditFault::OutOfMemory);
     };
-    let carry = handed_text(alloc, trace, &declared, follower.base, lines, handing)?;
-    let unaudited = count_unaudited(trace, follower.base, start.entries);
+    let carry = handed_text(alloc, trace, &declared, follower.known, lines, handing)?;
+    let unaudited = count_unaudited(trace, follower.known, start.entries);
     let open = follower.monitor.count_open(trace);
     let whole = is_whole(unaudited, open, carry.is_some());
     let text = run_text(follower, trace, start.entries, unaudited, whole)?;
@@ -250,17 +271,17 @@ fn end_run<W: Sink>(
     audit::tell(text.as_str(), end, out)
 }
 
-/// A follower that stands behind a log, and tells from its next line on of entries that ask at the base or above.
+/// A follower that stands behind a log, and tells from its next line on of entries that are audited by what is known.
 fn stand_behind(
     alloc: Global,
     log: KeptLog,
-    base: u64,
+    known: Known,
 ) -> Result<(KeptLog, Follower, Start), AllocError>
     requires { next_line log.log ≤ log.lines + 1 }
     ensures log { IfOk result (λ r. r.0 ≡ log) }
     ensures start { IfOk result (λ r. (r.2.lines ≡ log.lines) × (r.2.entries ≡ length log.log.entries)) }
     ensures told { IfOk result (λ r. r.1.told.items ≡ []) }
-    ensures from { IfOk result (λ r. (r.1.first ≡ log.lines + 1) × (r.1.base ≡ base)) }
+    ensures from { IfOk result (λ r. (r.1.first ≡ log.lines + 1) × (r.1.known ≡ known)) }
     ensures followed { IfOk result (λ r. (u : TraceValue) → GoesOn log.lines log.log u → AreInPlace u → IsOfBytes u
         → IsFollowed u r.1) }
 {
@@ -277,17 +298,17 @@ fn stand_behind(
     versions_issued_once(trace);
     valid_strata(trace);
     let entries = trace.len();
-    let follower = Follower::behind(alloc, trace, first, base)?;
+    let follower = Follower::behind(alloc, trace, first, known)?;
     let (log, _) = paused.resume();
     let log = KeptLog::from_parts(alloc, lines, log, declared);
     Ok((log, follower, Start { lines, entries }))
 }
 
 /// Follows the lines of a run behind a log, as [`follow`](crate::follow) does those of a trace: what was told of the
-/// log's own lines is not told again, and of entries that ask below the base, where the log does not know the store,
-/// nothing is told. At the end of the lines what no commit settles is not told: it goes on to the next run. Then come,
-/// for each entry that came and asks below the base, `line N: not audited, below B`; `not audited K`, for all of these;
-/// `open O`, for the entries that are not settled; and the last lines of the report, which count the entries that came
+/// log's own lines is not told again, and of entries that are not audited by what is known nothing is told. At the end of
+/// the lines what no commit settles is not told: it goes on to the next run. Then come, for each entry that came and is
+/// not audited, `line N: not audited, below B`, where it asks below the base, or `line N: not audited, its version was let
+/// go`, where it names a version that is not known to be issued; `not audited K`, for all of these; `open O`, for the entries that are not settled; and the last lines of the report, which count the entries that came
 /// and the findings of this run. Where nothing was found, and K is not 0, or O is not and no carry takes these entries
 /// on, the last is `verdict incomplete`.
 ///
@@ -296,19 +317,19 @@ fn stand_behind(
 pub fn follow_run<A: Source, W: Sink>(
     alloc: Global,
     log: KeptLog,
-    base: u64,
+    known: Known,
     handing: Option<Handing<'_>>,
     trace: &mut A,
     out: &mut W,
     heartbeats: bool,
 ) -> Result<RunEnd, AuditFault>
     requires { next_line log.log ≤ log.lines + 1 }
-    ensures run { Run (log_behind log) (RunEnds log base) (RunWentOut log base)
+    ensures run { Run (log_behind log) (RunEnds log known) (RunWentOut log known)
         (reads A.given A.ends A.failures A.remaining trace.old trace.new)
         (writes W.taken W.flushes W.failures W.idle W.contents out.old out.new) result }
     ensures kinds { IfErr result (IsOneOf (kind.trace ∷ kind.write ∷ kind.memory ∷ [])) }
 {
-    let (log, mut follower, start) = stand_behind(alloc, log, base)?;
+    let (log, mut follower, start) = stand_behind(alloc, log, known)?;
     let (log, usersets, read) = follow_lines(log, &mut follower, trace, out, heartbeats)?;
     end_run(log, usersets, start, read, handing, &follower, out)
 }

@@ -16,8 +16,8 @@
 //! each longer log (`follow_laws::laws::told_is_true`). A heartbeat is true of the lines that had come and of each
 //! longer log: up to its line all entries are settled, and of none of them anything is told behind it
 //! (`specs/Heartbeats.antt`). What a run tells is what the whole log lets tell at its lines
-//! (`runs::laws::told_by_run`), on entries that ask at the base or above; of the others it says that they were not
-//! audited.
+//! (`runs::laws::told_by_run`), on entries that are audited by what is known; of the others it says that they were
+//! not audited.
 //!
 //! ```text
 //! let verdict = follow(alloc, &mut trace, &mut out, true)?;

@@ -18,6 +18,8 @@ use Rattle.audit.specs.declared.plain.AuditFault.TheVariants as faults
 use Rattle.audit.proofs.KindLemmas.{never_answered}
 use Rattle.audit.proofs.Readers.{behind_at_rest, few_at_rest}
 use Rattle.runs.specs.Kept.{KeptValue, log_behind, nothing_kept}
+use Rattle.carry_laws.specs.Asked.{all_known}
+use Rattle.carry_laws.specs.declared.known.Known.{Known}
 use Rattle.follow.specs.Carried.{IsBegunBy, Refuses, RunsBehind, SayNoFirstRun, SayNoLines, SayNoRunFrom, answered}
 use Rattle.follow.specs.Handing.{RunEnds, RunWentOut}
 use Rattle.follow.specs.Running.{Run}
@@ -215,12 +217,12 @@ module _ {F : Type 0} (left : Counted F → Option (List ℕ)) (a0 : Counted F) 
 
     -- of the first run of a log
     pub runs_first : (r : Result RunEnd AuditFault)
-        → Run (log_behind nothing_kept) (RunEnds nothing_kept 0) (RunWentOut nothing_kept 0) trace out r
+        → Run (log_behind nothing_kept) (RunEnds nothing_kept all_known) (RunWentOut nothing_kept all_known) trace out r
         → IfErr r (IsOneOf (kind.trace ∷ kind.write ∷ kind.memory ∷ [])) → IsHandedOn path (answered r) s to
         → RunsFiles (codes "follow") out s (ran.WentOn x None to)
     runs_first (Ok end) h kinds hands =
         run_ended None x out s to (few_in_all left a0 (file_of x) unused.0 h.most) h.held end
-        (whole a0 (file_of x) (λ a. RunEnds nothing_kept 0 a out.before.taken out.after.taken end) unused h.follows)
+        (whole a0 (file_of x) (λ a. RunEnds nothing_kept all_known a out.before.taken out.after.taken end) unused h.follows)
         (omega (arith, h.kept.0, unused.2)) h.kept.1 path hands
     runs_first (Err e) h kinds hands =
         let st = fault_handed path e s to hands in
@@ -239,8 +241,8 @@ module _ {F : Type 0} (left : Counted F → Option (List ℕ)) (a0 : Counted F) 
       carry = reads moved_by stops_of failures_of left b0 (file_of y)
 
       abbrev RunOf : Result RunEnd AuditFault → List ℕ → Type 0
-      RunOf r b = (k : KeptValue) × (base : ℕ) × IsBegunBy b k base
-          × Run (log_behind k) (RunEnds k base) (RunWentOut k base) trace out r
+      RunOf r b = (k : KeptValue) × (known : Known) × IsBegunBy b k known
+          × Run (log_behind k) (RunEnds k known) (RunWentOut k known) trace out r
 
       module _ (most_read : GivesFew carry) where
         few : GivesFew trace → OfFiles (ran.WentOn x (Some y) to) (λ file. length (moved_by file) ≤ MAX_INPUT + CHUNK)

@@ -156,9 +156,9 @@ joined_is_asked (asked.audits t (Some e) w n early) old new s ran.Joined h is = 
 joined_is_asked (asked.audits t None w n early) old new s ran.Joined h is = absurd h
 joined_is_asked (asked.makes t list) old new s ran.Joined h is = absurd h
 joined_is_asked (asked.tells t u) old new s ran.Joined h is = absurd h.2
-joined_is_asked (asked.follows t (Some f) carry oldest heartbeat) old new s ran.Joined h is = absurd h
-joined_is_asked (asked.follows t None (Some c) oldest heartbeat) old new s ran.Joined h is = absurd h
-joined_is_asked (asked.follows t None None oldest heartbeat) old new s ran.Joined h is = absurd h
+joined_is_asked (asked.follows t (Some f) carry oldest versions heartbeat) old new s ran.Joined h is = absurd h
+joined_is_asked (asked.follows t None (Some c) oldest versions heartbeat) old new s ran.Joined h is = absurd h
+joined_is_asked (asked.follows t None None oldest versions heartbeat) old new s ran.Joined h is = absurd h
 joined_is_asked _ old new s run h is = absurd (cc (is))
 
 module _ {F : Type 0} (old new : List ℕ) (s : ℕ) (run : Ran F) where
@@ -216,8 +216,8 @@ module _ {F : Type 0} (old new : List ℕ) (s : ℕ) (run : Ran F) where
           → ((t : List ℕ) → words ≡ codes "make" ∷ t ∷ [] → is_plain_word t ≡ true → o ≡ Some (asked.makes t false))
           → ((t u : List ℕ) → words ≡ codes "history" ∷ t ∷ u ∷ [] → is_plain_word t ≡ true → is_plain_word u ≡ true
           → o ≡ Some (asked.tells t u))
-          → ((t : List ℕ) → words ≡ codes "follow" ∷ t ∷ [] → is_plain_word t ≡ true → o ≡ Some (asked.follows t None None None false))
-          → (words ≡ codes "follow" ∷ [] → o ≡ Some (asked.follows (codes "/dev/stdin") None None None false))
+          → ((t : List ℕ) → words ≡ codes "follow" ∷ t ∷ [] → is_plain_word t ≡ true → o ≡ Some (asked.follows t None None None None false))
+          → (words ≡ codes "follow" ∷ [] → o ≡ Some (asked.follows (codes "/dev/stdin") None None None None false))
           → (AreTaken words → (a : Asked) → Write words a → o ≡ Some a)
           → (is_shown run ≡ true → AskForHelp words)
           → IfSome o (λ a. slice_get words 0 ≡ command_of a)
@@ -230,8 +230,8 @@ module _ {F : Type 0} (old new : List ℕ) (s : ℕ) (run : Ran F) where
             audit_made = λ t is p. asked_is o (asked.audits t None 1 64 false) P (audit_made t is p) by;
             make = λ t is p. asked_is o (asked.makes t false) P (make t is p) by;
             history = λ t u is p q. asked_is o (asked.tells t u) P (history t u is p q) by;
-            follow = λ t is p. asked_is o (asked.follows t None None None false) P (follow t is p) by;
-            follow_input = λ is. asked_is o (asked.follows (codes "/dev/stdin") None None None false) P (follow_input is) by;
+            follow = λ t is p. asked_is o (asked.follows t None None None None false) P (follow t is p) by;
+            follow_input = λ is. asked_is o (asked.follows (codes "/dev/stdin") None None None None false) P (follow_input is) by;
             taken = λ takes a writes. asked_is o a P (taken takes a writes) by;
             shown = shown;
             first = named_run (slice_get words 0) o first command none;

@@ -80,8 +80,8 @@ RanAsked (asked.audits t (Some e) workers slice early) old new status run = RanA
 RanAsked (asked.audits t None workers slice early) old new status run = RanAuditAlone t workers slice status run
 RanAsked (asked.makes t list) old new status run = RanMake t status run
 RanAsked (asked.tells t u) old new status run = RanHistory t u old new status run
-RanAsked (asked.follows t None None oldest heartbeat) old new status run = RanFollow t status run
-RanAsked (asked.follows t from carry oldest heartbeat) old new status run = RanOn t from carry status run
+RanAsked (asked.follows t None None oldest versions heartbeat) old new status run = RanFollow t status run
+RanAsked (asked.follows t from carry oldest versions heartbeat) old new status run = RanOn t from carry status run
 
 -- something was read, or was to be
 abbrev pub HasRead : {F : Type 0} → Ran F → Type 0

@@ -27,11 +27,13 @@ pub enum Handed<F> {
     Made(Opened<F>),
 }
 
-/// What a run hands on: a carry in the file of this path, whose base moves up to the timestamp.
+/// What a run hands on: a carry in the file of this path, whose base moves up to the timestamp, and which has so many of
+/// the versions that were issued last, or all.
 #[derive(Clone, Copy)]
 pub struct Carrying<'a> {
     pub path: &'a str,
     pub oldest: u64,
+    pub versions: Option<u64>,
 }
 
 /// The exit status of a run that ended: 6 where nothing was found, and it is not whole.
@@ -104,6 +106,13 @@ fn oldest_of(carrying: &Option<Carrying<'_>>) -> Option<u64> {
     }
 }
 
+fn versions_of(carrying: &Option<Carrying<'_>>) -> Option<u64> {
+    match carrying {
+        Some(carrying) => carrying.versions,
+        None => None,
+    }
+}
+
 /// Follows the trace of a file behind the carry of another, and hands the two back with what they gave, and the file that
 /// a carry went to where one is asked for.
 pub fn run_behind<W: Sink, E: Sink, P: Files>(
@@ -127,6 +136,7 @@ pub fn run_behind<W: Sink, E: Sink, P: Files>(
         alloc,
         &mut from.file,
         oldest_of(&carrying),
+        versions_of(&carrying),
         &mut trace.file,
         out,
         heartbeats,
@@ -155,7 +165,8 @@ pub fn run_first<W: Sink, E: Sink, P: Files>(
     ensures ran { RanOn (path_of trace) None (Some carrying.entry.path.now) result.status result.read }
 {
     let oldest = Some(carrying.oldest);
-    let answer = match follow_first(alloc, oldest, &mut trace.file, out, heartbeats) {
+    let versions = carrying.versions;
+    let answer = match follow_first(alloc, oldest, versions, &mut trace.file, out, heartbeats) {
         Ok(end) => Ok(end),
         Err(fault) => Err(RunFault::Run(fault)),
     };

@@ -200,8 +200,8 @@ fn follow_paths<W: Sink, E: Sink, P: Files>(
 ) -> Done<P::File>
     ensures runs { RunsFiles (codes "follow")
         (writes W.taken W.flushes W.failures W.idle W.contents out.old out.new) result.status result.read }
-    ensures ran { (oldest : Option ℕ) → RanAsked (follows paths.entry.0.now (option_map (λ s. s.now) paths.entry.1)
-        (option_map (λ c. c.path.now) carrying.entry) oldest heartbeats)
+    ensures ran { (oldest versions : Option ℕ) → RanAsked (follows paths.entry.0.now (option_map (λ s. s.now) paths.entry.1)
+        (option_map (λ c. c.path.now) carrying.entry) oldest versions heartbeats)
         (W.taken out.old) (W.taken out.new) result.status result.read }
 {
     let (trace, from) = paths;
@@ -223,14 +223,19 @@ fn follow_paths<W: Sink, E: Sink, P: Files>(
     run_behind(rt, alloc, trace, from, carrying, heartbeats, out, err)
 }
 
-/// What a run is to hand on: its base stays where no timestamp is given.
-fn carrying_of(carry: Option<&str>, oldest: Option<u64>) -> Option<Carrying<'_>>
+/// What a run is to hand on: its base stays where no timestamp is given, and it has all versions where no number is.
+fn carrying_of(
+    carry: Option<&str>,
+    oldest: Option<u64>,
+    versions: Option<u64>,
+) -> Option<Carrying<'_>>
     ensures { option_map (λ c. c.path.now) result ≡ option_map (λ s. s.now) carry.entry }
 {
     match carry {
         Some(path) => Some(Carrying {
             path,
             oldest: oldest.unwrap_or(0),
+            versions,
         }),
         None => None,
     }
@@ -277,9 +282,10 @@ fn run_request<R: Source, W: Sink, E: Sink, P: Files + Threads + Wait + Sync>(
             from,
             carry,
             oldest,
+            versions,
             heartbeat,
         } => {
-            let carrying = carrying_of(carry, oldest);
+            let carrying = carrying_of(carry, oldest, versions);
             follow_paths(rt, alloc, (trace, from), carrying, heartbeat, out, err)
         }
     }

@@ -6,7 +6,8 @@ use Rattle.trace_lines.specs.Values.{EntryValue, TraceValue}
 use Rattle.trace_lines.specs.declared.cause.TraceFault.{TraceFault}
 use Rattle.evidence_check.specs.Steps.{StepValue}
 use Rattle.findings.specs.declared.finding.Finding.{Finding}
-use Rattle.carry_laws.specs.Asked.{is_asked, known_from}
+use Rattle.carry_laws.specs.Asked.{all_known, is_asked}
+use Rattle.carry_laws.specs.declared.known.Known.{Known}
 use Rattle.carry_laws.specs.Carried.{placeless}
 use Rattle.runs.specs.Kept.{KeptValue, log_behind, nothing_kept}
 use Rattle.audit.specs.Made.{IsMade}
@@ -15,21 +16,21 @@ use Rattle.follow.specs.Handing.{RunEnds}
 use Rattle.follow.specs.Pieces as pieces
 use Rattle.follow.specs.declared.handing.RunEnd.{RunEnd}
 
--- a run: the log that it began behind and its base, the bytes that came, what its writer held before and then, and how
--- it ended
+-- a run: the log that it began behind and what is known of it, the bytes that came, what its writer held before and then,
+-- and how it ended
 pub record Ran : Type 0 where
   pub behind : KeptValue
-  pub base : ℕ
+  pub known : Known
   pub bytes : List ℕ
   pub old : List ℕ
   pub new : List ℕ
   pub end : RunEnd
-  pub ends : RunEnds behind base bytes old new end
+  pub ends : RunEnds behind known bytes old new end
 
 -- a run begins with the text that was handed on
 abbrev pub BeginsWith : Option (List ℕ) → Ran → Type 0
 BeginsWith None r = ⊥
-BeginsWith (Some text) r = IsBegunBy text r.behind r.base
+BeginsWith (Some text) r = IsBegunBy text r.behind r.known
 
 abbrev pub handed : Ran → Option (List ℕ)
 handed r = option_map string_bytes r.end.carry
@@ -42,7 +43,7 @@ AreBehind text (r ∷ rs) = BeginsWith text r × AreBehind (handed r) rs
 -- and the first with nothing
 abbrev pub AreRuns : List Ran → Type 0
 AreRuns [] = ⊤
-AreRuns (r ∷ rs) = (r.behind ≡ nothing_kept) × ((r.base ≡ 0) × AreBehind (handed r) rs)
+AreRuns (r ∷ rs) = (r.behind ≡ nothing_kept) × ((r.known ≡ all_known) × AreBehind (handed r) rs)
 
 -- ---- the log that all lines say
 
@@ -67,14 +68,14 @@ abbrev pub told_by : List Ran → List Finding
 told_by [] = []
 told_by (r ∷ rs) = told_in r ++ told_by rs
 
--- the base of the run that takes a line
-abbrev pub base_at : List Ran → ℕ → ℕ
-base_at [] line = 0
-base_at (r ∷ rs) line = if nat_le line (r.behind.lines + line_count r.bytes) then r.base else base_at rs line
+-- what the run knows that takes a line
+abbrev pub known_at : List Ran → ℕ → Known
+known_at [] line = all_known
+known_at (r ∷ rs) line = if nat_le line (r.behind.lines + line_count r.bytes) then r.known else known_at rs line
 
--- the findings on entries that were audited: those that ask at or above the base of the run that took them
+-- the findings on entries that were audited by the run that took them
 abbrev pub on_audited : List Ran → TraceValue → List Finding → List Finding
-on_audited rs u found = filter (λ f. is_asked (known_from (base_at rs f.line)) u f.line) found
+on_audited rs u found = filter (λ f. is_asked (known_at rs f.line) u f.line) found
 
 -- the steps are made for the entry in the log of one of these runs
 abbrev pub IsMadeInRun : Ran → EntryValue → Option (List StepValue) → Type 0

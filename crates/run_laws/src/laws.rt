@@ -13,12 +13,13 @@ ghost use Rattle.runs.specs.Kept.{KeptValue};
 ghost use Rattle.audit.specs.declared.plain.Verdict.TheVariants.{Clean};
 ghost use Rattle.run_laws.specs.Runs.{AreRuns, IsMadeIn, Ran, on_audited, told_by, whole_log};
 
-/// What the runs of a log told, and what is left at its end, is what is found in the whole log on the entries that were
-/// audited, each finding once: by steps that are made, for each entry that is settled, in one of the runs.
+/// What the runs of a log told, and what is left at its end, is on the entries that were audited what is found in the whole
+/// log, each finding once: by steps that are made, for each entry that is settled, in one of the runs.
 pub fn told_together()
     ensures { (rs : List Ran) → AreRuns rs → (w : KeptValue) → whole_log rs ≡ Ok w
         → (evidence : List (Option (List StepValue)))
-        × IsPermutation (told_by rs ++ left_over w.log evidence) (on_audited rs w.log (findings_of w.log evidence))
+        × IsPermutation (told_by rs ++ on_audited rs w.log (left_over w.log evidence))
+        (on_audited rs w.log (findings_of w.log evidence))
         × ((i : ℕ) (e : EntryValue) → slice_get w.log.entries i ≡ Some e → IsSettled w.log e
         → IsMadeIn rs (placeless e) (steps_of evidence i)) }
 {}

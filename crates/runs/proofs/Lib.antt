@@ -4,6 +4,7 @@ pub mod DeclaredLemmas
 pub mod EntryLemmas
 pub mod KeptLemmas
 pub mod KeptReadLemmas
+pub mod KnownLemmas
 pub mod LineLemmas
 pub mod SoundLemmas
 pub mod StandingLemmas

@@ -1,5 +1,5 @@
 -- When a shorter log stands in for another one.
-use Rattle.std.proofs.Common.{◌≡◌, ℕ, zero, suc, ◌+◌, ◌-◌, ◌<◌, ◌≤◌, ◌||◌, inl, inr, Bool, true, false, cond, eqb, ltb, leb, List, [], ◌∷◌, ◌++◌, length, map, get_or, Option, Some, None, refl, sym, ◌∙◌, ap, subst, arith}
+use Rattle.std.proofs.Common.{◌≡◌, ℕ, zero, suc, ◌+◌, ◌-◌, ◌<◌, ◌≤◌, ◌||◌, ◌&&◌, inl, inr, Bool, true, false, cond, eqb, ltb, leb, List, [], ◌∷◌, ◌++◌, length, map, get_or, Option, Some, None, refl, sym, ◌∙◌, ap, subst, arith}
 use Rattle.std.specs.Prelude.{All, filter, slice_get, option_map}
 use Rattle.std.specs.List.{AllByRecursion, list_any}
 use Rattle.std.specs.List.Sorted.{IsStrictlyIncreasing}
@@ -25,8 +25,8 @@ use Rattle.windows.proofs.CompactionLemmas.{AreOrdered, IsAbove, IsUpTo, all_abo
 use Rattle.windows.proofs.CutLemmas.{lines_of}
 use Rattle.windows.proofs.GrownLemmas.{same_store}
 use Rattle.windows.proofs.NearestLemmas.{AreInTime, lines_in_time}
-use Rattle.carry_laws.specs.Asked.{known_from}
 use Rattle.carry_laws.specs.Carried.{Keeps, StandsIn, has_commit_at, placeless}
+use Rattle.carry_laws.specs.declared.known.Known.{Known}
 use Rattle.carry_laws.proofs.OnwardLemmas.{all_lines}
 use Rattle.carry_laws.proofs.StandInLemmas.{weaker}
 use Rattle.runs.specs.Alike.{IsCommitLine, commits_above, goes_on, is_above, is_open, issues_some, last_time, touches_above}
@@ -221,7 +221,7 @@ same_answer false false there back = refl
 
 -- ---- which entries go on
 
-open_unsettled : (t : TraceValue) (e : EntryValue) → is_settled t e ≡ false → is_open t e ≡ true
+pub open_unsettled : (t : TraceValue) (e : EntryValue) → is_settled t e ≡ false → is_open t e ≡ true
 open_unsettled t e unset = by_last (last_time t) refl
   where
     by_last : (o : Option ℕ) → last_time t ≡ o → is_above o e.snapshot ≡ true
@@ -241,27 +241,33 @@ issuing v s Check label h = let wrong : false ≡ true = h in absurd cc
 issuing v s Content None h = let wrong : false ≡ true = h in absurd cc
 issuing v s Content (Some l) h = refl
 
-issuer_goes_on : (t : TraceValue) (v : Version) (e : EntryValue) → issues v e ≡ true → goes_on t e ≡ true
-issuer_goes_on t v e issued =
-    ap (λ (x : Bool). is_open t e || x) (issuing v e.goal.set e.kind e.version issued) ∙ or-true (is_open t e)
+issuer_goes_on : (from : ℕ) (t : TraceValue) (v : Version) (e : EntryValue) → issues v e ≡ true → from ≤ e.line
+    → goes_on from t e ≡ true
+issuer_goes_on from t v e issued there =
+    ap (λ (x : Bool). is_open t e || (x && leb from e.line)) (issuing v e.goal.set e.kind e.version issued)
+    ∙ ap (λ (x : Bool). is_open t e || x) (le-leb from e.line there) ∙ or-true (is_open t e)
 
 -- ---- the law
 
 -- what was compared of two logs with the same declarations: where the commit at the base stands, and that both store
 -- the same there, go on alike, and that the entries of one are those of the other that go on
-pub record AreAlikeFrom (b line : ℕ) (t x : TraceValue) : Type 0 where
-  pub at_base : IsCommitLine t line b
+pub record AreAlikeFrom (known : Known) (line : ℕ) (t x : TraceValue) : Type 0 where
+  pub at_base : IsCommitLine t line known.base
   pub front : ℕ
-  pub front_at_base : IsCommitLine x front b
+  pub front_at_base : IsCommitLine x front known.base
   pub in_front : front ≤ line
-  pub stored : (s : TupleValue) → is_stored t.commits b s ≡ true → is_stored x.commits b s ≡ true
-  pub no_more : (s : TupleValue) → is_stored x.commits b s ≡ true → is_stored t.commits b s ≡ true
-  pub touched : touches_above b (changelog t.commits) ≡ touches_above b (changelog x.commits)
-  pub on_lines : commits_above b (commit_lines_of t) ≡ commits_above b (commit_lines_of x)
-  pub entries : map placeless (filter (goes_on t) t.entries) ≡ map placeless x.entries
+  pub stored : (s : TupleValue) → is_stored t.commits known.base s ≡ true → is_stored x.commits known.base s ≡ true
+  pub no_more : (s : TupleValue) → is_stored x.commits known.base s ≡ true → is_stored t.commits known.base s ≡ true
+  pub touched : touches_above known.base (changelog t.commits) ≡ touches_above known.base (changelog x.commits)
+  pub on_lines : commits_above known.base (commit_lines_of t) ≡ commits_above known.base (commit_lines_of x)
+  pub entries : map placeless (filter (goes_on known.versions t) t.entries) ≡ map placeless x.entries
   pub open_behind : (i : ℕ) (e : EntryValue) → slice_get t.entries i ≡ Some e → is_open t e ≡ true → line + 1 ≤ e.line
 
-module _ (b line : ℕ) (t x : TraceValue) (tp : HasPlacedCommits t) (xp : HasPlacedCommits x) (h : AreAlikeFrom b line t x) where
+module _ (known : Known) (line : ℕ) (t x : TraceValue) (tp : HasPlacedCommits t) (xp : HasPlacedCommits x)
+    (h : AreAlikeFrom known line t x) where
+  abbrev b : ℕ
+  b = known.base
+
   t_order : AreOrdered t.commits
   t_order = ordered t.commits tp.timestamps
 
@@ -305,22 +311,22 @@ module _ (b line : ℕ) (t x : TraceValue) (tp : HasPlacedCommits t) (xp : HasPl
       lines_up_to (commit_lines_of x) (rising_lines x xp) (rising_times x xp) h.front_at_base.0
       (record { line = h.front; at = b }) h.front_at_base.1
 
-  keeps : Keeps 0 (line + 1) t (goes_on t)
+  keeps : Keeps known.versions (line + 1) t (goes_on known.versions t)
   keeps = record {
     unsettled = λ i e at unset.
         let open_there = open_unsettled t e unset in (
-          ap (λ (z : Bool). z || issues_some e.kind e.version) open_there,
+          ap (λ (z : Bool). z || (issues_some e.kind e.version && leb known.versions e.line)) open_there,
           h.open_behind i e at open_there,
         );
-    issuers = λ v e is from. issuer_goes_on t v e is;
+    issuers = λ v e is from. issuer_goes_on known.versions t v e is from;
     by_face = λ e. refl;
   }
 
-  pub stands_in_there : x.declarations ≡ t.declarations → StandsIn (known_from b) (line + 1) t x
+  pub stands_in_there : x.declarations ≡ t.declarations → StandsIn known (line + 1) t x
   stands_in_there declared = record {
     front = front_commits;
     front_lines = lines_of (front_of b (commit_lines_of x));
-    keep = goes_on t;
+    keep = goes_on known.versions t;
     declarations = declared;
     commits = sym (cut b x.commits x_order) ∙ ap (λ (cs : List Commit). front_commits ++ cs) (sym same_above);
     on_lines =

@@ -1,5 +1,5 @@
 -- What of a log goes on to the next run, and when two touches are the same.
-use Rattle.std.specs.Prelude.{◌≡◌, ℕ, ◌-◌, ◌&&◌, ◌||◌, Bool, true, false, not, List, length, map, filter, nat_eq, nat_lt, is_some, slice_get, Option, None, Some}
+use Rattle.std.specs.Prelude.{◌≡◌, ℕ, ◌-◌, ◌&&◌, ◌||◌, Bool, true, false, not, List, length, map, filter, nat_eq, nat_le, nat_lt, is_some, slice_get, Option, None, Some}
 use Rattle.tuple_text.specs.Order.{tuple_eq}
 use Rattle.version_chains.specs.Commits.{Touch}
 use Rattle.trace_lines.specs.Values.{EntryValue, TraceValue}
@@ -44,6 +44,11 @@ abbrev pub issues_some : EntryKind → Option (List ℕ) → Bool
 issues_some Check v = false
 issues_some Content v = is_some v
 
--- it is still to be judged, or a later check may name its version
-abbrev pub goes_on : TraceValue → EntryValue → Bool
-goes_on t e = is_open t e || issues_some e.kind e.version
+-- another check with a version names it
+abbrev pub names_some : EntryKind → Option (List ℕ) → Bool
+names_some Check v = is_some v
+names_some Content v = false
+
+-- it is still to be judged, or a later check may name its version, of those that were issued from a line on
+abbrev pub goes_on : ℕ → TraceValue → EntryValue → Bool
+goes_on from t e = is_open t e || (issues_some e.kind e.version && nat_le from e.line)

@@ -11,7 +11,7 @@ ghost use Rattle.version_chains.specs.Touches.{touch_value};
 ghost use Rattle.trace_lines.specs.Values.{EntryValue};
 ghost use Rattle.token_order.specs.Order.{commit_lines_of};
 ghost use Rattle.carry_laws.specs.Carried.{placeless};
-ghost use Rattle.runs.specs.Alike.{commits_above, goes_on, is_above, is_open, last_time, touch_eq, touches_above};
+ghost use Rattle.runs.specs.Alike.{commits_above, goes_on, is_above, is_open, issues_some, last_time, touch_eq, touches_above};
 
 use marks::MarkedSet;
 use trace_lines::laws::stand_in_order;
@@ -216,28 +216,36 @@ pub(crate) fn is_above_all(log: &Trace, at: u64) -> bool
     }
 }
 
-/// Whether an entry is still to be judged, or a later check may name its version.
-pub(crate) fn goes_on(log: &Trace, i: usize) -> bool
+/// Whether an entry issues a version.
+pub(crate) fn issues_some(log: &Trace, i: usize) -> bool
     requires { i < length log.now.entries }
-    ensures { (e : EntryValue) → slice_get log.now.entries i ≡ Some e → result ≡ goes_on log.now e }
+    ensures { (e : EntryValue) → slice_get log.now.entries i ≡ Some e → result ≡ issues_some e.kind e.version }
 {
     let entry = log.entry(i);
-    let issues = match entry.kind {
+    match entry.kind {
         EntryKind::Check => false,
         EntryKind::Content => entry.version.is_some(),
-    };
-    is_above_all(log, entry.snapshot) || issues
+    }
 }
 
-/// Whether the entries of the other are those of the log that go on.
-pub(crate) fn are_entries_alike(log: &Trace, other: &Trace) -> bool
-    ensures { result ≡ true → map placeless (filter (goes_on log.now) log.now.entries)
+/// Whether an entry is still to be judged, or a later check may name its version, of those issued from a line on.
+pub(crate) fn goes_on(log: &Trace, from: u64, i: usize) -> bool
+    requires { i < length log.now.entries }
+    ensures { (e : EntryValue) → slice_get log.now.entries i ≡ Some e → result ≡ goes_on from log.now e }
+{
+    let entry = log.entry(i);
+    is_above_all(log, entry.snapshot) || (issues_some(log, i) && from <= entry.line)
+}
+
+/// Whether the entries of the other are those of the log that go on, of versions those issued from a line on.
+pub(crate) fn are_entries_alike(log: &Trace, other: &Trace, from: u64) -> bool
+    ensures { result ≡ true → map placeless (filter (goes_on from log.now) log.now.entries)
         ≡ map placeless other.now.entries }
 {
     let mut j = 0;
     // bounded by the entries of the log: each turn looks at one
     for i in 0..log.len() {
-        if goes_on(log, i) {
+        if goes_on(log, from, i) {
             if j == other.len() || !is_same_entry(log, i, other, j) {
                 return false;
             }

@@ -5,10 +5,9 @@ ghost use Rattle.trace_lines.specs.Values.{TraceValue, next_line};
 ghost use Rattle.evidence_check.specs.Steps.{StepValue};
 ghost use Rattle.windows.specs.Growth.{GoesOn};
 ghost use Rattle.follow_laws.specs.Begun.{IsOfBytes};
-ghost use Rattle.carry_laws.specs.Asked.{known_from};
 ghost use Rattle.carry_laws.specs.Carried.{GoesOnAlike, HaveSameSteps, asked_left, asked_on};
 ghost use Rattle.carry.specs.Values.{CarryValue};
-ghost use Rattle.runs.specs.Handed.{IsCarryOf};
+ghost use Rattle.runs.specs.Handed.{IsCarryOf, known_by};
 ghost use Rattle.runs.specs.Kept.{log_behind};
 
 use carry_laws::laws::told_alike;
@@ -21,8 +20,8 @@ pub fn come_alike()
         → (goes : GoesOn lines t u) × GoesOnAlike goes x y }
 {}
 
-/// Of the lines of a run, what is told of the log that its carry begins, on the entries that ask at the base or above,
-/// is what the whole log lets tell there; and so it is at the end. The run's bytes make u of the whole log t, and y of
+/// Of the lines of a run, what is told of the log that its carry begins, on the entries that are audited by what is
+/// known behind it, is what the whole log lets tell there; and so it is at the end. The run's bytes make u of the whole log t, and y of
 /// the log that the carry of t begins.
 pub fn told_by_run()
     ensures { (t u y : TraceValue) (c : CarryValue) (a : List ℕ) → (is : IsCarryOf t c) → next_line t ≤ c.lines + 1
@@ -30,8 +29,8 @@ pub fn told_by_run()
         → log_behind (record { lines = c.lines; log = is.log }) true a ≡ Ok y → IsOfBytes t → IsOfBytes u
         → IsOfBytes is.log → IsOfBytes y → (evidence own : List (Option (List StepValue)))
         → HaveSameSteps u evidence y own
-        → ((k : ℕ) → c.lines < k → asked_on (known_from c.base) u evidence k ≡ asked_on (known_from c.base) y own k)
-        × (asked_left (known_from c.base) u evidence ≡ asked_left (known_from c.base) y own) }
+        → ((k : ℕ) → c.lines < k → asked_on (known_by c) u evidence k ≡ asked_on (known_by c) y own k)
+        × (asked_left (known_by c) u evidence ≡ asked_left (known_by c) y own) }
 {
     told_alike();
 }

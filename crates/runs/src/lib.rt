@@ -14,7 +14,7 @@
 //! there is what the whole log lets tell ([`laws::told_by_run`]).
 //!
 //! ```text
-//! let carry = hand_on(alloc, &log, &declared, lines, oldest, None)?;
+//! let carry = hand_on(alloc, &log, &declared, known, wanted)?;
 //! let log = begin(alloc, &carry)?;
 //! ```
 #![tactic(auto)]
@@ -25,6 +25,7 @@ mod declared;
 mod fault;
 mod handing;
 mod kept;
+mod known;
 pub mod laws;
 mod making;
 mod standing;
@@ -32,5 +33,6 @@ mod standing;
 pub use beginning::begin;
 pub use declared::DeclaredLine;
 pub use fault::BeginFault;
-pub use handing::{hand_on, is_carry_of};
+pub use handing::{Wanted, hand_on, is_carry_of};
 pub use kept::KeptLog;
+pub use known::is_audited;

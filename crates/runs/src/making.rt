@@ -187,12 +187,13 @@ fn committed<'a>(
     })
 }
 
-/// The items of a carry of which a commit of the log is the base.
+/// The items of a carry of which a commit of the log is the base, and which has the versions issued from a line on.
 pub(crate) fn items_of<'a>(
     alloc: Global,
     log: &'a Trace,
     declared: &'a [DeclaredLine],
     base: usize,
+    versions: u64,
 ) -> Result<Vec<Item<'a>>, AllocError> {
     let mut items = Vec::new(alloc);
     let mut d = 0;
@@ -219,7 +220,7 @@ pub(crate) fn items_of<'a>(
                 c += 1;
             }
             Next::Records => {
-                if goes_on(log, e) {
+                if goes_on(log, versions, e) {
                     let entry = log.entry(e);
                     items.push(Item {
                         line: entry.line,

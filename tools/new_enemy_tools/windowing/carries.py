@@ -49,7 +49,7 @@ class Carry:
             raise WindowFault("%s was cut short or altered: its checksum is another" % name)
         try:
             reader = _Reader(data, len(FIRST))
-            self.lines, self.base = reader.number(b"lines"), reader.number(b"base")
+            self.lines, self.base, self.versions = map(reader.number, (b"lines", b"base", b"versions"))
             reader.before()
             self._count = reader.number(b"items")
             self._start = reader.at
@@ -88,12 +88,12 @@ class Carry:
 
     def having(self, items: Iterable[Item]) -> "Carry":
         """The same with other items; it goes on from no carry."""
-        return carry_of(self.lines, self.base, items)
+        return carry_of(self.lines, self.base, items, self.versions)
 
 
-def carry_of(lines: int, base: int, items: Iterable[Item]) -> Carry:
+def carry_of(lines: int, base: int, items: Iterable[Item], versions: int = 0) -> Carry:
     texts = [item.text for item in items]
-    body = b"%slines %d\nbase %d\n%s\nitems %d\n%s" % (FIRST, lines, base, NO_BEFORE, len(texts), b"".join(texts))
+    body = b"%slines %d\nbase %d\nversions %d\n%s\nitems %d\n%s" % (FIRST, lines, base, versions, NO_BEFORE, len(texts), b"".join(texts))
     return Carry(b"%s%s%s\n" % (body, SEAL, sha256(body).hexdigest().encode()), "a carry that was made")
 
 

@@ -20,10 +20,10 @@ pub returns-in-Some-clause-history : goal.returns-in-Some-clause-history
 returns-in-Some-clause-history c t u ws p q = c.in-Some.ensures.history (rows_of_two (sub 2) t u) t u (c.in-Ok.ensures.matches ∙ (ap (λ (words : List Text). subcommand_of program words) ws ∙ history_is t u p q)) (history_found t u)
 
 pub returns-in-Some-clause-follow : goal.returns-in-Some-clause-follow
-returns-in-Some-clause-follow c t ws p = c.in-Some.ensures.follow (follow_rows t) t None None None false (c.in-Ok.ensures.matches ∙ (ap (λ (words : List Text). subcommand_of program words) ws ∙ follow_is t p)) (follow_found t)
+returns-in-Some-clause-follow c t ws p = c.in-Some.ensures.follow (follow_rows t) t None None None None false (c.in-Ok.ensures.matches ∙ (ap (λ (words : List Text). subcommand_of program words) ws ∙ follow_is t p)) (follow_found t)
 
 pub returns-in-Some-clause-follow_input : goal.returns-in-Some-clause-follow_input
-returns-in-Some-clause-follow_input c ws = c.in-Some.ensures.follow input_rows (codes "/dev/stdin") None None None false (c.in-Ok.ensures.matches ∙ (ap (λ (words : List Text). subcommand_of program words) ws ∙ input_is)) input_found
+returns-in-Some-clause-follow_input c ws = c.in-Some.ensures.follow input_rows (codes "/dev/stdin") None None None None false (c.in-Ok.ensures.matches ∙ (ap (λ (words : List Text). subcommand_of program words) ws ∙ input_is)) input_found
 
 pub returns-in-Some-clause-first : goal.returns-in-Some-clause-first
 returns-in-Some-clause-first c =
@@ -54,9 +54,9 @@ returns-in-Ok c = record {
   history = λ t u ws p q.
       let bad = c.in-None.ensures.history (rows_of_two (sub 2) t u) t u (c.in-Ok.ensures.matches ∙ (ap (λ (words : List Text). subcommand_of program words) ws ∙ history_is t u p q)) (history_found t u) in absurd cc;
   follow = λ t ws p.
-      let bad = c.in-None.ensures.follow (follow_rows t) t None None None false (c.in-Ok.ensures.matches ∙ (ap (λ (words : List Text). subcommand_of program words) ws ∙ follow_is t p)) (follow_found t) in absurd cc;
+      let bad = c.in-None.ensures.follow (follow_rows t) t None None None None false (c.in-Ok.ensures.matches ∙ (ap (λ (words : List Text). subcommand_of program words) ws ∙ follow_is t p)) (follow_found t) in absurd cc;
   follow_input = λ ws.
-      let bad = c.in-None.ensures.follow input_rows (codes "/dev/stdin") None None None false (c.in-Ok.ensures.matches ∙ (ap (λ (words : List Text). subcommand_of program words) ws ∙ input_is)) input_found in absurd cc;
+      let bad = c.in-None.ensures.follow input_rows (codes "/dev/stdin") None None None None false (c.in-Ok.ensures.matches ∙ (ap (λ (words : List Text). subcommand_of program words) ws ∙ input_is)) input_found in absurd cc;
 }
 
 -- and clap takes them, but where memory runs out

@@ -6,8 +6,8 @@ use Rattle.token_order.proofs.Lines.{line_before}
 use Rattle.trace_lines.specs.EntryViews.{entry_value}
 use Rattle.trace_lines.specs.Values.{EntryValue, TraceValue, entry_lines}
 use Rattle.std.specs.List.Sorted.{IsStrictlyIncreasing}
-use Rattle.carry_laws.specs.Asked.{is_asked, is_audited, known_from}
-use Rattle.carry_laws.proofs.AskLemmas.{asks_all, audited_from, none_on_line, one_on_line}
+use Rattle.carry_laws.specs.Asked.{is_audited}
+use Rattle.carry_laws.proofs.AskLemmas.{none_on_line, one_on_line}
 use Rattle.follow.proofs.asking.is_asked.Goals as goal
 
 -- where entries before number i stand in front of a line, and those from there on do not, one alone may stand on it
@@ -23,18 +23,12 @@ others t rising line i e at from before j x there differ same = elim (cases_lt j
   ]
 ]
 
-pub returns-then-base-eq0 : goal.returns-then-base-eq0
-returns-then-base-eq0 c =
-    let none = c.if-base-eq0.true in
-    sym (ap (λ (b : ℕ). is_asked (known_from b) c.args.trace.now c.args.line) (let z : c.args.base ≡ 0 = omega (arith, none) in z)
-    ∙ asks_all c.args.trace.now c.args.line)
-
 pub returns-then-i-len : goal.returns-then-i-len
 returns-then-i-len c =
     let t = c.args.trace.now in
     let all = c.if-i-len.true in
     let count = c.len.ensures.count in
-    sym (none_on_line (is_audited (known_from c.args.base) t.entries) c.args.line t.entries (λ j x at same.
+    sym (none_on_line (is_audited c.args.known t.entries) c.args.line t.entries (λ j x at same.
     let within = slice_get_within t.entries j x at in
     let below = c.entries_before-i.ensures.before j x at (omega (arith, within, all, count)) in
     omega (arith, below, same)))
@@ -46,10 +40,10 @@ returns-then-entry-line c =
     let e = entry_value c.entry-entry.result in
     let at = c.entry-entry.ensures.value in
     let h : not (e.line == c.args.line) ≡ true = ap not (ne_eqb e.line c.args.line (λ same. let apart = c.if-entry-line.true in apart same)) in
-    h ∙ sym (one_on_line (is_audited (known_from c.args.base) t.entries) c.args.line t.entries i e at
+    h ∙ sym (one_on_line (is_audited c.args.known t.entries) c.args.line t.entries i e at
     (others t c.len.ensures.rising c.args.line i e at (c.entries_before-i.ensures.behind i e at (omega arith))
     c.entries_before-i.ensures.before)
-    ∙ ap (λ (b : Bool). b || is_audited (known_from c.args.base) t.entries e) h)
+    ∙ ap (λ (b : Bool). b || is_audited c.args.known t.entries e) h)
 
 pub returns-else-entry-line : goal.returns-else-entry-line
 returns-else-entry-line c =
@@ -59,8 +53,8 @@ returns-else-entry-line c =
     let at = c.entry-entry.ensures.value in
     let same = c.if-entry-line.false in
     let h : not (e.line == c.args.line) ≡ false = ap not (eq-eqb e.line c.args.line same) in
-    sym (one_on_line (is_audited (known_from c.args.base) t.entries) c.args.line t.entries i e at
+    c.is_audited.ensures e at
+    ∙ sym (one_on_line (is_audited c.args.known t.entries) c.args.line t.entries i e at
     (others t c.len.ensures.rising c.args.line i e at (c.entries_before-i.ensures.behind i e at (omega arith))
     c.entries_before-i.ensures.before)
-    ∙ ap (λ (b : Bool). b || is_audited (known_from c.args.base) t.entries e) h
-    ∙ audited_from c.args.base t.entries e)
+    ∙ ap (λ (b : Bool). b || is_audited c.args.known t.entries e) h)

@@ -37,9 +37,9 @@ loop-usersets-init g c =
       run = (
         first.0,
         λ says means. (
-          subst (λ (used : List ℕ). IsRunSoFar says c.args.follower.now.first c.args.follower.now.base used start start
+          subst (λ (used : List ℕ). IsRunSoFar says c.args.follower.now.first c.args.follower.now.known used start start
               c.args.follower.now) (sym first.1)
-              (run_first says c.args.log means c.args.follower.now.first c.args.follower.now.base c.args.follower.now start
+              (run_first says c.args.log means c.args.follower.now.first c.args.follower.now.known c.args.follower.now start
               c.requires.none (refl, refl) c.requires.followed c.requires.fits),
           subst (λ (used : List ℕ). IsIndexSoFar says used c.usersets-usersets.result) (sym first.1)
               (index_first says c.args.log means c.requires.fits c.usersets-usersets.result c.usersets-usersets.ensures),
@@ -174,7 +174,7 @@ loop-usersets-preserved-then-not-holds_line g c =
     record {
       run = subst (λ (k : KeptValue). (so_far : IsKeptSoFar g.A.Source.given g.A.Source.ends g.A.Source.failures g.A.Read.remaining
           c.args.trace.now c.take_line.new.reader c.args.log k c.take_line.new.lines) × ((says : Says)
-          → IsSaidBehind c.args.log says → IsRunSoFar says c.args.follower.now.first c.args.follower.now.base so_far.used
+          → IsSaidBehind c.args.log says → IsRunSoFar says c.args.follower.now.first c.args.follower.now.known so_far.used
           (g.W.Sink.taken c.args.out.now) (g.W.Sink.taken c.tell.new.out) c.tell.new.follower
           × IsIndexSoFar says so_far.used c.tell.new.usersets)) (sym same) (
             further,

@@ -12,7 +12,7 @@ abbrev pub invariant-loop-usersets : goal.invariant-loop-usersets
 invariant-loop-usersets g l = record {
   run : (so_far : IsKeptSoFar g.A.Source.given g.A.Source.ends g.A.Source.failures g.A.Read.remaining l.fn.trace l.trace
       l.fn.log l.log l.lines) × ((says : Says) → IsSaidBehind l.fn.log says → IsRunSoFar says l.fn.follower.first
-      l.fn.follower.base so_far.used (g.W.Sink.taken l.fn.out) (g.W.Sink.taken l.out) l.follower
+      l.fn.follower.known so_far.used (g.W.Sink.taken l.fn.out) (g.W.Sink.taken l.out) l.follower
       × IsIndexSoFar says so_far.used l.usersets);
   from : TellsFromSame l.fn.follower l.follower;
   next : next_kept l.log ≤ l.lines.number;

@@ -25,19 +25,19 @@ returns g c =
     let sum : c.in-Some.lines ≡ c.args.start.lines + c.args.read = omega (arith, lines) in
     told-map _ _ _ c.tell.result (λ text end says. record {
       last = says.0 ∙ c.as_str.ensures.value ∙ c.in_ok-text.ensures
-          ∙ ap (λ (t : TraceValue). run_lines w f.base c.args.start.entries t f.told.items) one
-          ∙ ap (λ (b : Bool). run_lines b f.base c.args.start.entries c.args.log.log f.told.items)
+          ∙ ap (λ (t : TraceValue). run_lines w f.known c.args.start.entries t f.told.items) one
+          ∙ ap (λ (b : Bool). run_lines b f.known c.args.start.entries c.args.log.log f.told.items)
           (sym (ap (λ (e : RunEnd). e.whole) says.1));
       verdict = ap (λ (e : RunEnd). e.verdict) says.1 ∙ c.verdict.ensures;
       whole = ap (λ (e : RunEnd). e.whole) says.1 ∙ c.is_whole-whole.ensures ∙ rw (
-        c.count_unaudited-unaudited.ensures ∙ ap (λ (t : TraceValue). unaudited f.base c.args.start.entries t) one,
+        c.count_unaudited-unaudited.ensures ∙ ap (λ (t : TraceValue). unaudited f.known c.args.start.entries t) one,
         c.count_open-open.ensures ∙ ap (λ (t : TraceValue). length (open_entries t)) one,
         c.is_some.ensures,
         ap (λ (e : RunEnd). e.carry) says.1,
       ) refl;
-      carry = subst (λ o. IfSome o (λ s. IsHandedOn f.base (c.args.start.lines + c.args.read) c.args.log.log (string_bytes s)))
+      carry = subst (λ o. IfSome o (λ s. IsHandedOn f.known (c.args.start.lines + c.args.read) c.args.log.log (string_bytes s)))
           (sym (ap (λ (e : RunEnd). e.carry) says.1))
-          (subst (λ (n : ℕ). IfSome c.in_ok-carry.carry (λ s. IsHandedOn f.base n c.args.log.log (string_bytes s))) sum
-          (subst (λ (t : TraceValue). IfSome c.in_ok-carry.carry (λ s. IsHandedOn f.base c.in-Some.lines t (string_bytes s)))
+          (subst (λ (n : ℕ). IfSome c.in_ok-carry.carry (λ s. IsHandedOn f.known n c.args.log.log (string_bytes s))) sum
+          (subst (λ (t : TraceValue). IfSome c.in_ok-carry.carry (λ s. IsHandedOn f.known c.in-Some.lines t (string_bytes s)))
           one c.in_ok-carry.ensures));
     }) c.tell.ensures

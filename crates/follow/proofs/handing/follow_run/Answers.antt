@@ -30,14 +30,14 @@ returns-in_err-log-clause-run g c =
     let k = c.args.log in
     let r = reader g.A.Source.given g.A.Source.ends g.A.Source.failures g.A.Read.remaining c.args.trace.now in
     let w = writer g.W.Sink.taken g.W.Sink.flushes g.W.Sink.failures g.W.Sink.idle g.W.Write.contents c.args.out.now in
-    handed_on (Run (log_behind k) (RunEnds k c.args.base) (RunWentOut k c.args.base) _ _) _ c.from_residual.ensures.1
-    (stopped (log_behind k) (RunEnds k c.args.base) (RunWentOut k c.args.base) (record { before = r; after = r })
+    handed_on (Run (log_behind k) (RunEnds k c.args.known) (RunWentOut k c.args.known) _ _) _ c.from_residual.ensures.1
+    (stopped (log_behind k) (RunEnds k c.args.known) (RunWentOut k c.args.known) (record { before = r; after = r })
     (record { before = w; after = w }) faults.OutOfMemory (refl, tt)
     (record { most = few_at_rest r; known = next_at_rest r; kept = refl }) (
       [],
       sym (append-nil r.given),
-      went_on k c.args.base [] w.taken w.taken
-          (nothing_at_all (log_behind k) k (λ whole a. refl) (k.lines + 1) c.args.base w.taken),
+      went_on k c.args.known [] w.taken w.taken
+          (nothing_at_all (log_behind k) k (λ whole a. refl) (k.lines + 1) c.args.known w.taken),
     )
     (behind_at_rest w) (λ is. absurd is) (λ _. (refl, refl)))
 
@@ -49,9 +49,9 @@ follow_lines-requires-clause-followed g c =
 pub returns-in_err-log-2-clause-run : goal.returns-in_err-log-2-clause-run
 returns-in_err-log-2-clause-run g c =
     let k = c.args.log in
-    handed_on (Run (log_behind k) (RunEnds k c.args.base) (RunWentOut k c.args.base) _ _) _
+    handed_on (Run (log_behind k) (RunEnds k c.args.known) (RunWentOut k c.args.known) _ _) _
     c.from_residual-in_err-log-2.ensures.1
-    (run_stopped k c.args.base c.in_ok-log.follower.first c.in_ok-log.follower.base c.in_ok-log.ensures.from.0
+    (run_stopped k c.args.known c.in_ok-log.follower.first c.in_ok-log.follower.known c.in_ok-log.ensures.from.0
     c.in_ok-log.ensures.from.1 (reads g.A.Source.given g.A.Source.ends g.A.Source.failures g.A.Read.remaining c.args.trace.now c.follow_lines.new.trace) (writer g.W.Sink.taken g.W.Sink.flushes g.W.Sink.failures g.W.Sink.idle g.W.Write.contents c.args.out.now)
     (writer g.W.Sink.taken g.W.Sink.flushes g.W.Sink.failures g.W.Sink.idle g.W.Write.contents c.follow_lines.new.out) _ (TellsLines (log_behind k) _)
     (c.in_err-log-2.ensures.run (log_behind k) (same_log c.in_ok-log.log k c.in_ok-log.ensures.log)))
@@ -86,7 +86,7 @@ returns-clause-run g c =
     let f = c.follow_lines.new.follower in
     let from = c.in_ok-log-2.ensures.from in
     let began = c.in_ok-log.ensures.from in
-    run_ended k c.args.base (reads g.A.Source.given g.A.Source.ends g.A.Source.failures g.A.Read.remaining c.args.trace.now c.follow_lines.new.trace) (writer g.W.Sink.taken g.W.Sink.flushes g.W.Sink.failures g.W.Sink.idle g.W.Write.contents c.args.out.now)
+    run_ended k c.args.known (reads g.A.Source.given g.A.Source.ends g.A.Source.failures g.A.Read.remaining c.args.trace.now c.follow_lines.new.trace) (writer g.W.Sink.taken g.W.Sink.flushes g.W.Sink.failures g.W.Sink.idle g.W.Write.contents c.args.out.now)
     (writer g.W.Sink.taken g.W.Sink.flushes g.W.Sink.failures g.W.Sink.idle g.W.Write.contents c.follow_lines.new.out) (writer g.W.Sink.taken g.W.Sink.flushes g.W.Sink.failures g.W.Sink.idle g.W.Write.contents c.end_run.new.out) f c.in_ok-log-2.log c.in_ok-log-2.usersets c.in_ok-log-2.read c.requires
     (from.0 ∙ began.0) (from.1 ∙ began.1) run c.end_run.result
     (subst (λ (n : ℕ). Told (IsRunEnd c.in_ok-log-2.log.log f n (k.lines + c.in_ok-log-2.read)) (record {

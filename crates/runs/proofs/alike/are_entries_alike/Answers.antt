@@ -25,7 +25,7 @@ loop-i-preserved c =
           let there = there_is other.entries j before in (
             omega (arith, before, at),
             λ rest. c.loop-i.invariant.1
-                (mapped_at (goes_on log) placeless log.entries other.entries i j own.0 there.0 own.1 there.1
+                (mapped_at (goes_on c.args.from log) placeless log.entries other.entries i j own.0 there.0 own.1 there.1
                 (sym (c.goes_on.ensures own.0 own.1) ∙ w.if-goes_on.true)
                 (w.is_same_entry.ensures w.if-not-is_same_entry.false own.0 there.0 own.1 there.1)
                 (rest ∙ ap rest_of at)),
@@ -34,7 +34,7 @@ loop-i-preserved c =
           let at = w.j-is in (
             omega (arith, within, at),
             λ rest. c.loop-i.invariant.1
-                (ap (map placeless) (passed_at (goes_on log) log.entries i own.0 own.1
+                (ap (map placeless) (passed_at (goes_on c.args.from log) log.entries i own.0 own.1
                 (sym (c.goes_on.ensures own.0 own.1) ∙ w.if-goes_on.false))
                 ∙ rest ∙ ap rest_of at),
           )

@@ -8,5 +8,5 @@ use Rattle.runs.proofs.alike.are_entries_alike.Given as goal
 abbrev pub invariant-loop-i : goal.invariant-loop-i
 invariant-loop-i l =
     (l.j ≤ length l.other.entries)
-    × (map placeless (filter (goes_on l.log) (drop l.i l.log.entries)) ≡ map placeless (drop l.j l.other.entries)
-    → map placeless (filter (goes_on l.log) l.log.entries) ≡ map placeless l.other.entries)
+    × (map placeless (filter (goes_on l.from l.log) (drop l.i l.log.entries)) ≡ map placeless (drop l.j l.other.entries)
+    → map placeless (filter (goes_on l.from l.log) l.log.entries) ≡ map placeless l.other.entries)

@@ -1,11 +1,11 @@
 use Rattle.std.proofs.Common.{◌≡◌, ◌∙◌, [], ℕ, List, ap, arith, subst, sym}
 use Rattle.std.proofs.lemmas.Bool.{leb-true}
-use Rattle.carry_laws.specs.Asked.{known_from}
 use Rattle.carry_laws.specs.Carried.{StandsIn}
 use Rattle.trace_lines.specs.Values.{TraceValue}
 use Rattle.carry.specs.Values.{carry_value, item_values}
 use Rattle.carry.specs.declared.value.Item.{Item}
 use Rattle.runs.specs.DeclaredTexts.{declared_by, declared_in}
+use Rattle.runs.specs.Handed.{known_by}
 use Rattle.runs.proofs.DeclaredLemmas.{begun_declares}
 use Rattle.runs.proofs.handing.is_carry_of.Goals as goal
 
@@ -27,6 +27,6 @@ returns-in-Some c holds =
       log = c.in-Ok.begun;
       begun = c.in-Ok.ensures.begun;
       first = c.in-Some.first;
-      stands = subst (λ (t : TraceValue). StandsIn (known_from c.args.carry.now.base) c.in-Some.first c.args.log.now t) same c.in-Some.ensures;
+      stands = subst (λ (t : TraceValue). StandsIn (known_by (carry_value c.args.carry.now)) c.in-Some.first c.args.log.now t) same c.in-Some.ensures;
       behind = omega (arith, low, less);
     }

@@ -1,7 +1,6 @@
 use Rattle.std.proofs.Common.{◌≡◌, ◌+◌, ◌≤◌, ℕ, List, true, ◌∙◌, sym, ap, subst}
 use Rattle.tuple_text.specs.Tuples.{TupleValue}
 use Rattle.version_chains.specs.Commits.{Commit, changelog, is_stored}
-use Rattle.carry_laws.specs.Asked.{known_from}
 use Rattle.carry_laws.specs.Carried.{StandsIn}
 use Rattle.runs.specs.Alike.{touches_above}
 use Rattle.runs.proofs.StandingLemmas.{AreAlikeFrom, stands_in_there}
@@ -19,10 +18,11 @@ pub returns : goal.returns
 returns c =
     let log = c.args.log.now in
     let other = c.args.other.now in
-    let base = c.args.base in
+    let known = c.args.known in
+    let base = known.base in
     let line = c.in_ok-line.line in
     let next : c.in_ok-first.first ≡ line + 1 = c.in_ok-first.ensures.1 in
-    let alike : AreAlikeFrom base line log other = record {
+    let alike : AreAlikeFrom known line log other = record {
       at_base = c.in_ok-line.ensures;
       front = c.in_ok-front.front;
       front_at_base = c.in_ok-front.ensures;
@@ -42,5 +42,5 @@ returns c =
       open_behind = λ i e at opens.
           subst (λ (n : ℕ). n ≤ e.line) next (c.are_open_from.ensures c.if-not-are_open_from.false i e at opens);
     } in
-    subst (λ (n : ℕ). StandsIn (known_from base) n log other) (sym next)
-    (stands_in_there base line log other c.stand_in_order.ensures.commits c.stand_in_order-2.ensures.commits alike c.requires)
+    subst (λ (n : ℕ). StandsIn known n log other) (sym next)
+    (stands_in_there known line log other c.stand_in_order.ensures.commits c.stand_in_order-2.ensures.commits alike c.requires)
