@@ -221,11 +221,12 @@ def keep_day(days: Days, given: Namespace, own: Own, found: Audited, ids: Option
         from new_enemy_tools.windowing.day_pages import write_day
         write_day(found, own, ids, 1 + (days.last or 0), days.work(PAGE))
     report = found.report
-    kept = [days.work(REPORT), *(keep_trace(days.work(), found, own) if given.keep_days else ())]
+    files = [days.work(REPORT), *(keep_trace(days.work(), found, own) if given.keep_days else ())]
+    kept = {os.path.basename(path): digest_of(path) for path in files}
     write_whole(days.work("summary.json"), [json.dumps(Summary(
         given.names, digest, report.status(given.allow_unaudited), report.entries, len(report.findings),
         sum(report.coverage.not_audited.values()), report.held, report.verdict, report.coverage.row(), labels._asdict(), given.held_back,
-        digest_of(days.work("left")) if os.path.exists(days.work("left")) else "", {os.path.basename(path): digest_of(path) for path in kept})._asdict())])
+        digest_of(days.work("left")) if os.path.exists(days.work("left")) else "", kept)._asdict())])
     if os.path.exists(days.work("trace")):
         os.remove(days.work("trace"))
     shutil.rmtree(days.work(JOINED_LOG), ignore_errors=True)

@@ -180,10 +180,11 @@ def with_words(join: Join, words: dict[str, Beside]) -> Iterator[Value]:
         is_empty = False
         yield value
     last = max(one.until for one in join.sketches)
-    for path, found in {} if is_empty else words.items():
+    for path, found in [] if is_empty else list(words.items()):
         end = time_text(max(found.end, found.start, last))
-        yield {"event": "gap", **({"from": time_text(found.start)} if found.start else {}), "to": time_text(found.end) if found.end else end,
-               "reason": "%s: %s" % (PASSED, path), **({"lost": found.amount} if found.amount else {}), "time": end}
+        yield {"event": "gap", **({"from": time_text(found.start)} if found.start else {}),
+               "to": time_text(found.end) if found.end else end, "reason": "%s: %s" % (PASSED, path),
+               **({"lost": found.amount} if found.amount else {}), "time": end}
 
 
 def write_whole(join: Join, words: dict[str, Beside], folder: str) -> int:

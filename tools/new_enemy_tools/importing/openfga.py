@@ -406,7 +406,8 @@ class OpenFgaLog(Log):
             self.refusals.refuse(event.file, event.line, str(fault))
             return False
         # A tuple that is left out is one of the feed all the same, so that each place and each page that was read twice is known.
-        unmapped = "condition on a tuple" if get(key, "condition") else causes.TUPLE_FIELD if has_others(key, STORED) else None
+        unmapped = causes.TUPLE_FIELD if has_others(key, STORED) else None
+        unmapped = "condition on a tuple" if get(key, "condition") else unmapped
         event.asked = (unmapped,) if live and unmapped else None
         return self.put(event, given, live, None)
 

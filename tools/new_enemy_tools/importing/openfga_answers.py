@@ -12,8 +12,8 @@ from new_enemy_tools.importing.service import UNREAD, Answer, each, streamed
 # What a denial may have without its `allowed`.
 SILENT = frozenset(("allowed", "resolution"))
 # The fields of requests that decide, of each check of a batch, and of their tuple keys.
-ASKED = frozenset(("store_id", "authorization_model_id", "tuple_key", "contextual_tuples", "context", "consistency", "trace", "checks", "correlation_id",
-                   "type", "object", "relation", "user", "user_filters"))
+ASKED = frozenset(("store_id", "authorization_model_id", "tuple_key", "contextual_tuples", "context", "consistency", "trace",
+                   "checks", "correlation_id", "type", "object", "relation", "user", "user_filters"))
 KEY = frozenset(("object", "relation", "user"))
 STORED = KEY | {"condition"}
 # The service takes every letter in an id but blanks of ASCII.

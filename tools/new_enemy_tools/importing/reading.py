@@ -15,9 +15,10 @@ def spelled(name: str) -> str:
 
 
 def has_others(value: Any, known: frozenset[str]) -> bool:
-    """Whether an object says something by a key that is none of these, in either spelling. What JSON of protobuf writes of a field that is not set
-    says nothing."""
-    return isinstance(value, dict) and any([said for key, said in value.items() if key not in known and spelled(key) not in known])
+    """Whether an object says something by a key that is none of these, in either spelling. What JSON of protobuf writes
+    of a field that is not set says nothing."""
+    others = value.keys() - known if isinstance(value, dict) else ()
+    return any([value[key] for key in others if spelled(key) not in known])
 
 
 # The other spelling of each key that was asked for.

@@ -14,8 +14,9 @@ REPLIES = {"PERMISSIONSHIP_HAS_PERMISSION": True, "PERMISSIONSHIP_NO_PERMISSION"
 CONDITIONAL = "PERMISSIONSHIP_CONDITIONAL_PERMISSION"
 LOOKUP = "LOOKUP_"
 # The fields of requests that decide, and of what they name.
-ASKED = frozenset(("consistency", "resource", "permission", "subject", "context", "with_tracing", "items", "resource_object_type", "subject_object_type",
-                   "optional_subject_relation", "optional_limit", "optional_cursor", "optional_concrete_limit", "wildcard_option"))
+ASKED = frozenset(("consistency", "resource", "permission", "subject", "context", "with_tracing", "items",
+                   "resource_object_type", "subject_object_type", "optional_subject_relation", "optional_limit",
+                   "optional_cursor", "optional_concrete_limit", "wildcard_option"))
 OBJECT = frozenset(("object_type", "object_id"))
 SUBJECT = frozenset(("object", "optional_relation"))
 STORED = frozenset(("resource", "relation", "subject", "optional_caveat", "optional_expires_at"))
@@ -59,7 +60,8 @@ def unmapped_of(given: object) -> Optional[str]:
     """What a relationship in JSON has that a trace has no form for."""
     if get(given, "optionalCaveat") or get(given, "optionalExpiresAt"):
         return "caveat" if get(given, "optionalCaveat") else "expiration"
-    return causes.TUPLE_FIELD if has_others(given, STORED) or _has_others(get(given, "resource"), get(given, "subject")) else None
+    is_other = has_others(given, STORED) or _has_others(get(given, "resource"), get(given, "subject"))
+    return causes.TUPLE_FIELD if is_other else None
 
 
 def _has_others(resource: object, subject: object) -> bool:

@@ -1,7 +1,7 @@
 """The folder of a cut: its files, and the manifest that says what the cut wrote."""
 import json
 import os
-from typing import NamedTuple, Optional
+from typing import Any, NamedTuple, Optional
 
 from new_enemy_tools.faults import PartsFault, naming
 from new_enemy_tools.trace_pieces import digest_of
@@ -63,8 +63,9 @@ def read_manifest(folder: str) -> Manifest:
         if value.pop("format") != FORMAT:
             raise ValueError
         read = Manifest(**value)
-        read = read._replace(traces=_files(read.traces), evidence=None if read.evidence is None else _files(read.evidence))
-        lists = [read.entries] + [[one.bytes for one in files] for files in (read.traces, read.evidence) if files is not None]
+        evidence = None if read.evidence is None else _files(read.evidence)
+        read = read._replace(traces=_files(read.traces), evidence=evidence)
+        lists = [read.entries] + [[one.bytes for one in files] for files in (read.traces, evidence) if files is not None]
         if not (type(read.parts) is int and isinstance(read.cut, str) and all(_are_numbers(one, read.parts) for one in lists)):
             raise ValueError
     except FileNotFoundError:
@@ -74,9 +75,9 @@ def read_manifest(folder: str) -> Manifest:
     return read
 
 
-def _files(listed: list[list[object]]) -> list[Written]:
+def _files(listed: Any) -> list[Written]:
     """The files of a manifest; raises TypeError."""
-    return [Written(*one) for one in listed]  # type: ignore[arg-type]
+    return [Written(*one) for one in listed]
 
 
 def _refuse_other(path: str, written: Optional[Written]) -> None:

@@ -44,7 +44,8 @@ def write_report(path: str, manifest: Manifest, part: int, status: int, output: 
 
 
 def text_of(path: str, data: bytes, trace: str) -> str:
-    """What the program wrote of a part, whose trace stands there; raises ReportFault where it ended with a fault, or is of another part."""
+    """What the program wrote of a part, whose trace stands there; raises ReportFault where it ended with a fault, or is
+    of another part."""
     folder = os.path.dirname(trace)
     try:
         report = read_part_report(path, data)

@@ -121,8 +121,8 @@ def untold(folder: str) -> dict[str, Beside]:
 
 
 def said_of(path: str) -> str:
-    return ("gap beside the log: %s tells that another recorder passed requests that it did not record; the next one in that folder writes down "
-            "from when to when" % path)
+    return ("gap beside the log: %s tells that another recorder passed requests that it did not record; the next one in "
+            "that folder writes down from when to when" % path)
 
 
 def _new_path(folder: str) -> str:

@@ -29,7 +29,8 @@ class NotKept(ToolFault):
 
 def keep_trace(folder: str, found: Audited, own: Own) -> list[str]:
     """Keeps a day's trace in its folder; the files."""
-    packed, numbers = pack(os.path.join(folder, TRACE), chain((row.raw + b"\n" for row in found.old.rows), own.blocks())), os.path.join(folder, NUMBERS)
+    packed = pack(os.path.join(folder, TRACE), chain((row.raw + b"\n" for row in found.old.rows), own.blocks()))
+    numbers = os.path.join(folder, NUMBERS)
     with naming(numbers), open(numbers, "w", encoding="utf-8") as file:
         json.dump({"before": found.old.lines, "carried": [row.line for row in found.old.rows]}, file, separators=(",", ":"))
         file.write("\n")
