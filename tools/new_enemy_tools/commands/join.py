@@ -207,8 +207,8 @@ def main(words: list[str]) -> int:
         folders = [one for one in given.logs if os.path.isdir(one) and not taps_in(one)]
         own = [own_in(one, int(given.took * 1e9)) for one in given.logs if one not in folders]
         join = Join([log_of(folder) for folder in folders], given.skew * 1_000_000, own, int(given.stale_by * 1e9))
-        words = {path: word for folder in folders for path, word in untold(folder).items()}
-        count = write_whole(join, words, given.out)
+        beside = {path: word for folder in folders for path, word in untold(folder).items()}
+        count = write_whole(join, beside, given.out)
     except OSError as fault:
         raise DeviceFault("cannot use %s: %s" % (fault.filename, fault.strerror)) from None
     for one in join.own:

@@ -60,9 +60,10 @@ class Cut:
                 with naming(file.name):
                     file.write(blocks.too_long)
                     file.flush()
-            digest.update(blocks.too_long)
-            self.name.update(digest.digest())
-            return [Written(file.tell(), made.hexdigest()) for file, made in zip(files, digests)]
+            written = [Written(file.tell(), made.hexdigest()) for file, made in zip(files, digests)]
+        digest.update(blocks.too_long)
+        self.name.update(digest.digest())
+        return written
 
     def _noted(self, blocks: Blocks, digest: blake2b) -> Iterator[bytes]:
         """The blocks, each of which the digest takes."""

@@ -424,7 +424,7 @@ def _value_of(raw: bytes) -> Optional[dict[str, Any]]:
 
 
 def _place_of(value: dict[str, Any], before: Place) -> Place:
-    doubts = tuple(map(tuple, value["doubts"])) if "doubts" in value else before.doubts
+    doubts: Doubts = tuple([tuple(one) for one in value["doubts"]]) if "doubts" in value else before.doubts
     return Place(value.get("cursor"), value.get("revision", 0), value.get("rules_sha256"), value.get("behind", 0), tuple(value.get("apart", ())),
                  doubts=doubts, late=value.get("late", before.late))
 
