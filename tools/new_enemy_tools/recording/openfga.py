@@ -235,7 +235,7 @@ class OpenFga:
         self.models = [Model(rules.id or "", revision)]
         self.places = Places(revision, base.received)
         self.began, self.first = base.began, base.received
-        core.sequencer.reached = revision
+        core.sequencer.reached = core.sequencer.written = revision
         behind = (left.writes if left else 0) + place.behind + len(base.changes)
         self.tainted = {Relationship(*one) if one else None: Taint(ODD, base.received) for one in place.doubts}
         self.doubts, self.learnt = place.doubts, place.late
