@@ -519,7 +519,8 @@ class OpenFga:
             self.waits = [one for one in self.waits if one.message.clock < first.asked]
             for one in lost:
                 core.forget(one.message.number)
-            core.lose(UNSHOWN % (self.hold / 1e9), first.at, sum(len(one.answers) for one in lost))
+            since = min([first.at, *(one.message.begun for one in lost)])
+            core.lose(UNSHOWN % (self.hold / 1e9), since, sum(len(one.answers) for one in lost))
         for number, asked in list(self.open.items()):
             if asked < before:
                 del self.open[number]
