@@ -146,6 +146,8 @@ class Kept(Keeper):
         self.is_open = self.is_busy = False
         # writes of which it has heard, and its log has nothing yet; and when it, or one before it, had learnt how late the changes are shown
         self.heard, self.learnt = [], None
+        # when the last reading began that it took
+        self.read_at = 0
         # as of a world; `read` is what was known from the readings
         self.known, self.read, self.since, self.whole, self.first, self.last_began = [], [], {}, set(), None, 0
 
@@ -164,6 +166,7 @@ class Kept(Keeper):
         self.is_busy = True
         while self.inbox:
             message = self.inbox.popleft()
+            self.read_at = getattr(message, "began", self.read_at)
             self._note(message)
             self._take([message], 0)
             self._write()
@@ -837,8 +840,9 @@ class OfWhole(Verdict):
             yield "a client was refused, and no gap says so"
         feed, later = (Counter((tuple(one for one in row[2] if one is not None), row[3]) for row in world.service.feed if row[4] > since)
                        for since in (-1 << 60, world.based))
-        later.subtract((tuple(one for one in row[2] if one is not None), row[3]) for row in world.service.feed
-                       if row[4] > world.based and row[4] in world.service.hidden)
+        # What no reading showed before the end comes with the next recorder.
+        later.subtract((tuple(one for one in row[2] if one is not None), row[3]) for row in world.service.feed if row[4] > world.based and (
+            row[4] in world.service.hidden or max(row[4], row[5] + world.service.horizon) >= world.keepers[-1].read_at))
         if self.rows and (self.written - feed or +later - self.written and not world.is_left_open):
             yield "a change stands not in the log, or twice"
         if not world.has_troubles and len(self.entries) + self.lost + self.elsewhere != len(answered):

@@ -6,6 +6,7 @@ import importlib.util
 import io
 import json
 import os
+import shutil
 import socket
 import threading
 import time
@@ -309,6 +310,18 @@ class Order(Case):
         made.put_entry(4, 0, b"content", 1)
         self.assertEqual(self.drained(made), [b"content", 5, b"check"])
 
+    def test_a_content_check_is_written_with_all_that_it_names(self):
+        """What stands behind it waits too."""
+        made = Sequencer()
+        made.told_until = 10
+        made.put_commit(Commit(5, b"", 1))
+        made.put_commit(Commit(6, b"", 11))
+        made.put_entry(4, 0, b"content", 1, 6)
+        made.put_entry(5, 0, b"check", 2)
+        self.assertEqual((self.drained(made), made.size), ([], len(b"contentcheck")))
+        made.told_until = 11
+        self.assertEqual((self.drained(made), made.size), ([b"content", 5, b"check", 6], 0))
+
     def test_a_commit_waits_until_all_before_it_was_told(self):
         made = Sequencer()
         made.put_commit(Commit(5, b"", 8))
@@ -477,6 +490,22 @@ class Files(Case):
         os.close(log._lock)
         place = self.log()[1].place
         self.assertEqual((place.doubts, place.late), ((), 1.5))
+
+    def test_a_content_check_that_names_changes_which_were_not_written(self):
+        """Where its recorder was killed in the midst of a write it is taken away with what stands behind it: they may
+        come in another order."""
+        goal = ["document", "d", "viewer", "user", "a"]
+        for between, more, wanted in (([0, 2], 1, False), ([0, 1], 1, True), ([0, 2], 2, True)):
+            shutil.rmtree(self.path("log"), ignore_errors=True)
+            log, _ = self.log()
+            self.begin(log)
+            content = line("content", goal=goal, newest_between=between, reply=False, time="2024-01-01T00:00:10Z")
+            log.add(content + b"".join(write_line(revision, [], []) for revision in range(1, more + 1)))
+            os.close(log._lock)
+            log, left = self.log()
+            found = self.get("log/000001.jsonl")
+            self.assertEqual(('"content"' in found, left.revision), (wanted, more if wanted else 0))
+            os.close(log._lock)
 
     def test_writes_that_are_not_shown(self):
         """Those that no line has settled are left to the next recorder, over the end of a file too, and where it is ended before it goes on."""

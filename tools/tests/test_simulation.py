@@ -183,7 +183,7 @@ class OfTheWhole(Case):
 
     def test_what_the_feed_never_shows_and_who_knows_of_it_is_killed(self):
         """Right replies that rest on a write are called wrong where its keeper alone knew of it; not where the log does."""
-        for seed in (*range(60), 455, 866):
+        for seed in (*range(60), 455, 866, 3537, 3663):
             self.assertEqual(run_whole(seed, unshown(seed), True)[1].faults(), [], "seed %d" % seed)
         with mock.patch.object(OpenFga, "_take_unshown", lambda *words: None):
             self.assertIn("a right reply is called wrong", {fault.split(" (check")[0] for fault in run_whole(215, unshown(215), True)[1].faults()})

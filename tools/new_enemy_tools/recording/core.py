@@ -364,7 +364,8 @@ class Core:
         if self.sequencer.size > ROOM:
             raise Bad(FULL)
         if made:
-            self.sequencer.put_entry(place, message.clock, made, message.number)
+            high = max(values.get("newest_between") or values.get("snapshot_between") or [values.get("snapshot", place)])
+            self.sequencer.put_entry(place, message.clock, made, message.number, high if high > place else 0)
 
     # Time, and the lines
 

@@ -22,6 +22,9 @@ from new_enemy_tools.recording.lines import gap_line, line, time_text
 from new_enemy_tools.recording.overlap import Known
 
 NAME = re.compile(r"[0-9]{6}\.jsonl(?:\.gz)?")
+# The revision of a line, and the last one that a content check of OpenFGA looked at.
+REVISION = re.compile(rb'"revision":([0-9]+)')
+NAMED = re.compile(rb'"(?:newest_between":\[[0-9]+,|snapshot":)([0-9]+)')
 PACKED = ".gz"
 # What is compressed by half, in no list of the log's files.
 PART = re.compile(r"\.[0-9]{6}\.part")
@@ -193,9 +196,10 @@ class LogFiles:
         head, store, size, closed, hashed = None, None, 0, None, hashlib.sha256()
         place, writes, revision, last, count = Place(None, 0, None), 0, 0, None, 0
         unshown, told, wanted = dict[int, Unshown](), 0, 0
+        end = _end_of(path) if self.service == "openfga" else None
         with opened(path) as file:
             for raw in file:
-                value = _value_of(raw)
+                value = None if size == end else _value_of(raw)
                 if value is None or closed:
                     break
                 if head is None:
@@ -421,6 +425,23 @@ def _value_of(raw: bytes) -> Optional[dict[str, Any]]:
     except ValueError:
         return None
     return value if isinstance(value, dict) else None
+
+
+def _end_of(path: str) -> Optional[int]:
+    """Before which line a file of OpenFGA that is not closed was cut in the midst of a write: a content check that names
+    changes which the file does not have. They may come again in another order."""
+    size = revision = 0
+    ahead = list[tuple[int, int]]()
+    with opened(path) as file:
+        for raw in file:
+            if raw.startswith((b'{"event":"write"', b'{"event":"rules"', b'{"event":"log"', b'{"event":"place"')):
+                revision = max(revision, int(found[1]) if (found := REVISION.search(raw)) else 0)
+            elif raw.startswith(b'{"event":"content"') and (found := NAMED.search(raw)):
+                ahead.append((int(found[1]), size))
+            elif raw.startswith(b'{"event":"closed"'):
+                return None
+            size += len(raw)
+    return min((at for reach, at in ahead if reach > revision), default=None)
 
 
 def _place_of(value: dict[str, Any], before: Place) -> Place:

@@ -235,7 +235,7 @@ class OpenFga:
         self.models = [Model(rules.id or "", revision)]
         self.places = Places(revision, base.received)
         self.began, self.first = base.began, base.received
-        core.sequencer.reached = revision
+        core.sequencer.reached = core.sequencer.written = revision
         behind = (left.writes if left else 0) + place.behind + len(base.changes)
         self.tainted = {Relationship(*one) if one else None: Taint(ODD, base.received) for one in place.doubts}
         self.doubts, self.learnt = place.doubts, place.late
@@ -519,7 +519,8 @@ class OpenFga:
             self.waits = [one for one in self.waits if one.message.clock < first.asked]
             for one in lost:
                 core.forget(one.message.number)
-            core.lose(UNSHOWN % (self.hold / 1e9), first.at, sum(len(one.answers) for one in lost))
+            since = min([first.at, *(one.message.begun for one in lost)])
+            core.lose(UNSHOWN % (self.hold / 1e9), since, sum(len(one.answers) for one in lost))
         for number, asked in list(self.open.items()):
             if asked < before:
                 del self.open[number]

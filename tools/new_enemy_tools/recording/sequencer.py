@@ -27,13 +27,15 @@ class Commit(NamedTuple):
 
 
 class Ready(NamedTuple):
-    """An entry of a call with all that it needs, to be written right behind the commits up to its place."""
+    """An entry of a call with all that it needs, to be written right behind the commits up to its place, and by one write
+    with those up to `reach`, which it names: a recorder that goes on may have these in another order."""
 
     place: int
     number: int
     since: int
     data: bytes
     call: int
+    reach: int
 
 
 class Known:
@@ -67,7 +69,7 @@ class Sequencer:
         self.ready: list[Ready] = []
         # content checks under way, each with the newest revision that was known when it began
         self.saves: dict[int, int] = {}
-        self.reached = 0
+        self.reached = self.written = 0
         self._number = 0
         # how long the lines are that wait
         self.size = 0
@@ -76,13 +78,33 @@ class Sequencer:
         self.commits.append(commit)
         self.reached = max(self.reached, commit.revision)
 
-    def put_entry(self, place: int, since: int, data: bytes, call: int) -> None:
+    def put_entry(self, place: int, since: int, data: bytes, call: int, reach: int = 0) -> None:
         self._number += 1
         self.size += len(data)
-        heapq.heappush(self.ready, Ready(place, self._number, since, data, call))
+        heapq.heappush(self.ready, Ready(place, self._number, since, data, call, reach))
 
     def drained(self) -> list[Union[Commit, Ready]]:
         """What can be written now, in order."""
+        found = self._next()
+        while True:
+            last = next((one.revision for one in reversed(found) if isinstance(one, Commit)), self.written)
+            cut = next((place for place, one in enumerate(found) if isinstance(one, Ready) and one.reach > last), len(found))
+            if cut == len(found):
+                self.written = last
+                return found
+            for one in reversed(found[cut:]):
+                self._put_back(one)
+            del found[cut:]
+
+    def _put_back(self, one: Union[Commit, Ready]) -> None:
+        if isinstance(one, Commit):
+            self.commits.appendleft(one)
+        else:
+            self.size += len(one.data)
+            heapq.heappush(self.ready, one)
+
+    def _next(self) -> list[Union[Commit, Ready]]:
+        """What has all before it."""
         found: list[Union[Commit, Ready]] = []
         oldest = min(self.saves.values(), default=None)
         while True:
