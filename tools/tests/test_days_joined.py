@@ -49,10 +49,6 @@ class Simulated(SimulatedCase):
         with mock.patch.object(DayJoin, "_reach", lambda self, log: 1 << 62):
             self.assert_finds("a version is left out that was saved in time", writes=0.1, requests=25)
 
-    def test_a_check_that_names_a_state_to_which_its_log_has_not_come(self):
-        with mock.patch.object(DayJoin, "_moved", lambda self, log, revision, value: self.way.moved(log, revision, value)):
-            self.assert_finds("a right reply is called wrong", writes=0.6, faults=0)
-
 
 def joined(before, *logs, over=(), skew=0):
     """The lines of a day, and what the next one goes on from."""
@@ -119,6 +115,13 @@ class Parts(Case):
         self.assertEqual((events(made), waiting.checks), ([("content", 1), ("check", 1), ("check", 1)], 0))
         made, _, _ = joined(before, ("left", showing), ("right", saving), over=["right"])
         self.assertEqual([row.get("reason") for row in made], [UNKNOWN, None])
+
+    def test_a_check_that_names_a_state_to_which_its_log_has_not_come_waits(self):
+        """Recorders write it behind the changes that it names; those that were killed wrote it before them."""
+        log = lines(change(1, "a"), check(2, 5), change(2, "b"))
+        made, before, waiting = joined(Before(), ("left", log[:-1]))
+        self.assertEqual((events(made)[2:], waiting.checks), ([("write", 1)], 1))
+        self.assertEqual(events(joined(before, ("left", log))[0]), [("write", 2), ("check", 2)])
 
     def test_content_is_not_parted_from_what_it_may_have_seen(self):
         content = {**check(0, 5, "content", version="v"), "newest_between": [1, 2]}

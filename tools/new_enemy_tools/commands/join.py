@@ -214,7 +214,7 @@ def main(words: list[str]) -> int:
     for one in join.own:
         for reason, passed in sorted(one.passed.items()):
             tell("passed over %d in %s: %s" % (passed, one.name, reason), sys.stdout)
-    for path in words:
+    for path in beside:
         tell(said_of(path), sys.stdout)
     print("joined %d logs of %s: %d changes, %d lines" % (len(given.logs), join.service, join.way.spine.count, count))
     return 0
